@@ -1,12 +1,13 @@
 #!/usr/bin/env python3
 """check.py PROGRAM [PAGE..]: runs what the pages say with this program, and compares.
 
-With pages, it runs the `sh` blocks of these alone. With none it runs those of README.md, CONTRIBUTING.md and docs/*.md, each input of the
-tables of docs/errors.md and the examples of docs/help/, and checks the man page, the completions and the script ./larboardyuzu. All of it
-happens in copies of this repository without its sources, so that nothing is built. What needs a tool that isn't here is left out, with a
-line. The exit code is 1 if anything differs."""
+With pages, it runs the `sh` blocks of these alone. With none it runs those of README.md, CONTRIBUTING.md and docs/*.md, the input of each row
+of docs/errors.md, which is in examples/errors.sh, and the examples of docs/help/, checks the man page, the completions, the script
+./larboardyuzu and its helpers, and pastes the blocks into interactive shells. All of it happens in copies of this repository without its sources, so that
+nothing is built. What needs a tool that isn't here is left out, with a line. The exit code is 1 if anything differs."""
 import os
 import re
+import shlex
 import shutil
 import signal
 import subprocess
@@ -14,6 +15,8 @@ import sys
 import tempfile
 
 import check_help
+import check_pasted
+import check_setups
 import check_shells
 
 TOP = os.path.dirname(os.path.dirname(os.path.abspath(__file__)))
@@ -143,52 +146,65 @@ def code_in(cell):
     return found[1] if found else ""
 
 
-def input_in(row):
-    """The input that a row shows, which is in its last column, or before that of the first line."""
-    return code_in([*row.values()][-2 if "First line" in row else -1])
+def key_of(row):
+    """The words after `shows`, of examples/errors.sh, that run the input of a row; none of a row without an input."""
+    if "Exit code, last line" in row:
+        return f"code {row['Exit code, last line'].split()[0]}"
+    if "What is refused" in row:
+        return f"refused {code_in(row['Last line']).split()[1]}"
+    if "Rule" in row:
+        return f"rule {row['N']}"
+    return f"cause {re.split('[:,]', row['Usual cause'].replace('`', ''))[0]}" if "What is printed" in row else ""
+
+
+def difference(key, row, said, status):
+    """What the page says, if the input of a row does something else; otherwise nothing."""
+    lines = said.splitlines()
+    kind, name = key.split(" ", 1)
+    if kind == "cause":
+        printed = re.findall(r"`([^`]*)`", row["What is printed"])
+        return "" if status == 0 and all(it in printed for it in lines) else f"exit code 0, and only lines of {printed}"
+    if kind == "code":
+        code, last = int(name), code_in(row["Exit code, last line"].partition(" ")[2])
+    else:
+        code, last = (1, code_in(row["Last line"])) if kind == "refused" else (9, f"setup field {name}")
+    # Where there is no last line, the row is about the exit code alone.
+    is_last = not last or lines[-1:] == [last]
+    return "" if status == code and is_last else f"exit code {code}, and as the last line: {last}"
 
 
 def check_errors(program):
     """Runs the input of each row of docs/errors.md, and yields what differs from its last line and exit code."""
     page = "docs/errors.md"
-    text = read(page)
-    prelude = next(body for kind, body, _ in blocks_of(text) if kind == "sh")
-    rows = [it for it in rows_of(text) if any(name.endswith(("shows it", "show it")) for name in it)]
-    if shutil.which("rt", path="/usr/bin:/bin"):
+    rows = {key: row for row in rows_of(read(page)) if (key := key_of(row))}
+    inputs = set(re.findall(r"(?m)^    '([^']+)'\)", read("examples/errors.sh")))
+    yield from (f"{page}: no row for the input '{it}' of examples/errors.sh" for it in sorted(inputs - set(rows)))
+    yield from (f"{page}: examples/errors.sh has no input for the row '{it}'" for it in sorted(set(rows) - inputs))
+    if shutil.which("rt", path="/usr/bin:/bin") and rows.pop("code 127", None):
         print(f"{page}: the row of 127 is left out, since rt is in /usr/bin here", flush=True)
-        rows = [it for it in rows if it.get("Code") != "127"]
     with Room(program) as room:
         # (one row reads 4 GiB, which takes minutes if the machine has other work)
-        results = room.run([prelude, *[f"( {input_in(row)} )" for row in rows]], wait=1200)[1:]
-    reached = [it for it in results if it is not None]
-    if len(reached) < len(rows):
-        yield f"{page}: the shell or its time ended before this row did: {input_in(rows[len(reached)])}"
-    for row, (said, status, _) in zip(rows, reached):
-        rule = row.get("N")
-        last = f"setup field {rule}" if rule else code_in(row.get("Last line", ""))
-        code = 9 if rule else int(row.get("Code", 0 if "First line" in row else 1))
-        lines = said.splitlines() or [""]
-        # Where there is no last line, the row is about the exit code alone.
-        is_last = lines[-1] == last or not last
-        is_first = "First line" not in row or lines[0] == code_in(row["First line"])
-        if status != code or not is_last or not is_first:
-            wanted = last or row.get("First line", "")
-            yield f"{page}: {input_in(row)}\n--- ends with {status} and prints\n{said}--- and the page says {code} and: {wanted}"
-    yield from missing_rows(page, rows)
+        calls = [f"( shows {' '.join(map(shlex.quote, key.split(' ', 1)))} )" for key in rows]
+        results = room.run([". examples/errors.sh", *calls], wait=1200)[1:]
+    for (key, row), result in zip(rows.items(), results):
+        if result is None:
+            yield f"{page}: the shell or its time ended before this row did: {key}"
+            break
+        said, status, _ = result
+        wanted = difference(key, row, said, status)
+        if wanted:
+            yield f"{page}: shows {key}\n--- ends with {status} and prints\n{said}--- and the page says {wanted}"
+    yield from missing_rows(page, set(rows))
     print(f"{page}: {len(rows)} rows run", flush=True)
 
 
-def missing_rows(page, rows):
+def missing_rows(page, keys):
     """What the program can end with, and has no row."""
     exits = read("crates/midi_commands/src/status.rt").split("fn exit_code")[1].split("fn ")[0]
-    codes = set(re.findall(r"=> (\d+),", exits))
-    reasons = set(re.findall(r'Reason::\w+ => "(\w+)"', read("crates/midi_commands/src/last_line.rt")))
-    rules = set(re.findall(r"(?m)^number_of rule\.\w+ = (\d+)$", read("crates/function_blocks/specs/Rules.antt")))
-    refused = {code_in(it["Last line"]).split()[1] for it in rows if "What is refused" in it}
-    has = {"exit code": (codes, {it.get("Code") for it in rows}), "rule": (rules, {it.get("N") for it in rows})}
-    has["reason"] = reasons, refused
-    for what, (wanted, found) in has.items():
-        yield from (f"{page}: no row for the {what} {it}" for it in sorted(wanted - found))
+    wanted = {f"code {it}" for it in re.findall(r"=> (\d+),", exits)}
+    wanted |= {f"refused {it}" for it in re.findall(r'Reason::\w+ => "(\w+)"', read("crates/midi_commands/src/last_line.rt"))}
+    wanted |= {f"rule {it}" for it in re.findall(r"(?m)^number_of rule\.\w+ = (\d+)$", read("crates/function_blocks/specs/Rules.antt"))}
+    yield from (f"{page}: no row for: {it}" for it in sorted(wanted - keys))
 
 
 def pages():
@@ -202,13 +218,16 @@ def main(words):
         return 2
     program = os.path.abspath(words[0])
     if not os.path.isfile(program):
-        print(f"check.py: there is no program {program}: build it by ./larboardyuzu selftest 0")
+        print(f"check.py: there is no program {program}: build it by ./larboardyuzu prove")
         return 1
     differ = [why for page in words[1:] or pages() for why in check_page(program, page)]
     if not words[1:]:
         differ += check_errors(program)
+        with Room(program) as room:
+            differ += check_setups.check(room)
         differ += check_help.check(Room, program, TOP)
         differ += check_shells.check(check_shells.LOADS)
+        differ += check_pasted.check_pages(program, pages())
     print(*differ, sep="\n")
     print(f"pages: {len(differ)} differ" if differ else "pages: all as they say")
     return 1 if differ else 0

@@ -6,11 +6,15 @@
   crate_graph.py above-of CRATE..       the crates that stand above any of these
   crate_graph.py map                    by layer, each crate, how many stand above it, and the crates that it stands on directly
   crate_graph.py layers                 the map of docs/crates.md: the layers, from the top down, each with the layers that its crates name
+  crate_graph.py cost                   by the history, how many lines of the present tree a touch of a crate has had proved again, on
+                                        average: those of the crate that a commit touched, and of those above it
   crate_graph.py check                  compares docs/crates.md and crates.txt: the layers, that each crate has its row, and that a row links
                                         to a source of its crate; ends with 1 if they differ
 """
+import collections
 import os
 import re
+import subprocess
 import sys
 import textwrap
 
@@ -89,6 +93,47 @@ def drawn():
     return "\n".join(rows[1:])
 
 
+def proved_lines(it):
+    """How many lines of a crate are proved or cited by a proof: its `.rt` and `.antt` files, those that `rt` makes left out."""
+    count = 0
+    for folder, inner, names in os.walk(f"{TOP}/crates/{it}"):
+        inner[:] = [one for one in inner if one != "out"]
+        count += sum(len(read(f"{folder}/{name}").splitlines()) for name in names if name.endswith((".rt", ".antt")))
+    return count
+
+
+def git(*words):
+    return subprocess.run(["git", "-C", TOP, *words], capture_output=True, text=True, check=True).stdout
+
+
+def touches(names):
+    """How many commits touched each crate of these names, in a file other than its rows: a row is data, and needs no proof."""
+    counts = collections.Counter()
+    for commit in git("log", "--no-merges", "--name-only", "--format=%x00", "--", "crates").split("\0"):
+        counts.update(set(re.findall(r"(?m)^crates/(\w+)/(?!data/)", commit)) & names)
+    return counts
+
+
+def cost():
+    graph = Graph(f"{TOP}/crates.txt")
+    try:
+        counts = touches(set(graph.named))
+        is_shallow = git("rev-parse", "--is-shallow-repository").strip() == "true"
+    except (OSError, subprocess.CalledProcessError):
+        print("crate_graph.py: `cost` needs git and the history of the repository", file=sys.stderr)
+        return 2
+    if is_shallow:
+        print("This clone is shallow, so only the commits that it has are counted: `git fetch --unshallow` brings the others.")
+    own = {it: proved_lines(it) for it in graph.named}
+    lines = {it: own[it] + sum(own[other] for other in graph.above[it]) for it in graph.named}
+    total = sum(counts[it] * lines[it] for it in graph.named)
+    print(f"{'crate':22}{'touches':>8}{'lines with those above':>24}{'share':>8}")
+    for it in sorted(counts, key=lambda it: (-counts[it] * lines[it], it)):
+        print(f"{it:22}{counts[it]:8}{lines[it]:24}{counts[it] * lines[it] / total:8.1%}")
+    print(f"A touch has had {total // max(sum(counts.values()), 1):,} of {sum(own.values()):,} lines proved again, on average.")
+    return 0
+
+
 def spans(numbers):
     """Numbers in order, three or more in a row as one span."""
     found = []
@@ -154,6 +199,8 @@ def main(words):
         return print(drawn())
     if words == ["layers"]:
         return print(layers(Graph(f"{TOP}/crates.txt")))
+    if words == ["cost"]:
+        return cost()
     if words == ["check"]:
         return check()
     print(__doc__.strip(), file=sys.stderr)

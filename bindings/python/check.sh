@@ -34,7 +34,7 @@ compares() { # EXAMPLE: runs it over standard input, and compares what it prints
 
 runs tests -m unittest discover -s "$here/tests"
 # the library as the loader finds it, by its name with the version of its binary interface
-LARBOARDYUZU_LIBRARY= LD_LIBRARY_PATH="$libdir" runs "by the name of the library" -c 'import larboardyuzu'
+LARBOARDYUZU_LIBRARY='' LD_LIBRARY_PATH="$libdir" runs "by the name of the library" -c 'import larboardyuzu'
 says "speed" "$here/tests/speed.py"
 # the wheel with the library in it, which needs nothing else; the same files make the same wheel
 "$here/wheels.py" "$room" "$libdir/liblarboardyuzu.so" >"$room/name" || { cat "$room/name"; echo "Python: there is no wheel"; exit 1; }
@@ -44,8 +44,8 @@ mkdir "$room/again" "$room/installed"
 cmp "$room/$wheel" "$room/again/$wheel" || { echo "Python: two wheels of the same files differ"; exit 1; }
 runs "unpacking $wheel" -m zipfile -e "$room/$wheel" "$room/installed"
 [ -f "$room/installed/larboardyuzu/py.typed" ] || { echo "Python: the wheel has no py.typed"; exit 1; }
-LARBOARDYUZU_LIBRARY= PYTHONPATH="$room/installed" runs "the wheel" -m unittest discover -s "$here/tests"
-LARBOARDYUZU_LIBRARY= PYTHONPATH="$room/installed" says "speed of the wheel" "$here/tests/speed.py"
+LARBOARDYUZU_LIBRARY='' PYTHONPATH="$room/installed" runs "the wheel" -m unittest discover -s "$here/tests"
+LARBOARDYUZU_LIBRARY='' PYTHONPATH="$room/installed" says "speed of the wheel" "$here/tests/speed.py"
 # as pip makes and installs it, with no index to ask
 if python3 -m pip --version >/dev/null 2>&1; then
     runs "pip install, a wheel" -W ignore -m pip install -q --no-index --no-cache-dir --disable-pip-version-check --target "$room/pip" "$room/$wheel"

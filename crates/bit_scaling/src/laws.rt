@@ -1,4 +1,4 @@
-// What holds of all values that are raised and lowered.
+// Laws that hold for all values that are scaled up or down.
 ghost use Rattle.std.specs.Prelude.{ℕ, ◌≡◌, ◌<◌};
 ghost use Rattle.bit_scaling.specs.Scaling.{
   up,
@@ -10,7 +10,8 @@ ghost use Rattle.bit_scaling.specs.Scaling.{
   KeepsEnds,
 };
 
-/// A value that is raised and then lowered is unchanged; the velocity of a note on only from 1 up.
+/// Proves that scaling a value up and then down returns the same value. For the velocity of a note on, this
+/// holds from 1 up.
 #[tactic(auto, using(crate::proofs::ScalingLaws::lowered_again))]
 pub fn lowering_undoes_raising()
     ensures seven { (value : ℕ) → value < 128 → down7 (up value 7 32) ≡ value }
@@ -20,7 +21,7 @@ pub fn lowering_undoes_raising()
         velocity_down (up velocity 7 16) ≡ velocity }
 {}
 
-/// A greater value is raised to a greater one.
+/// Proves that a greater value scales up to a greater value.
 #[tactic(auto, using(crate::proofs::ScalingLaws::increases))]
 pub fn raising_is_strictly_increasing()
     ensures velocity { IsIncreasing 7 16 }
@@ -28,7 +29,8 @@ pub fn raising_is_strictly_increasing()
     ensures fourteen { IsIncreasing 14 32 }
 {}
 
-/// The least value is raised to the least, the centre to the centre and the greatest to the greatest.
+/// Proves that scaling up maps the minimum to the minimum, the centre to the centre and the maximum to the
+/// maximum.
 #[tactic(auto, using(crate::proofs::ScalingLaws::keeps_ends))]
 pub fn raising_keeps_minimum_centre_and_maximum()
     ensures velocity { KeepsEnds 7 16 }

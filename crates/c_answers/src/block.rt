@@ -1,28 +1,29 @@
-// How far a call over a block came.
+// The result of a call over a block.
 ghost use Rattle.std.specs.Prelude.{◌≡◌, ◌≤◌, ◌+◌, ◌-◌, ◌<◌, ◌^◌, IsTrue, false};
 ghost use Rattle.c_answers.specs.Blocks.{leaves_few, nothing_taken, with_item, with_need, with_refused};
 
-/// How far a call over a block came: over packets, or over the bytes of a stream.
+/// The result of a call over a block of packets, or of bytes of a stream: how far the call came.
 #[repr(C)]
 #[derive(Clone, Copy)]
 pub struct Block {
-    /// The number of words or bytes taken from the front of the input, with those of a refused item.
+    /// The number of words or bytes taken from the front of the input, including those of a refused item.
     pub taken: usize,
-    /// The number of places written to the first buffer.
+    /// The number of elements written to the first buffer.
     pub written: usize,
     /// The number of items written to the second buffer.
     pub items: usize,
-    /// How many of `taken`, at its end, belong to the item that was refused; 0 if none was.
+    /// How many of the last words or bytes in `taken` belong to the item that was refused; 0 if no item was
+    /// refused.
     pub refused: usize,
-    /// After `SmallBuffer`, if the rest of the first buffer was too small: what an empty one needs. Otherwise
-    /// 0.
+    /// After `SmallBuffer`, if the rest of the first buffer was too small: the size that an empty first
+    /// buffer needs. Otherwise 0.
     pub need: usize,
     /// After `SmallBuffer`, if the second buffer was full: 1. Otherwise 0.
     pub need_items: usize,
 }
 
 impl Block {
-    /// The block of a call that took nothing.
+    /// Returns the block of a call that took nothing.
     #[inline(always)]
     pub fn nothing() -> Block
         ensures { result ≡ nothing_taken }
@@ -37,8 +38,9 @@ impl Block {
         }
     }
 
-    /// Whether the rest of a buffer is too small for one more item, by the sizes of both buffers and the most
-    /// places that an item may need in each. If so, sets `need` and `need_items`; otherwise changes nothing.
+    /// Returns whether the rest of a buffer is too small for one more item. The arguments are the size of
+    /// each buffer and the most elements that an item may need in it. If a buffer is too small, sets `need`
+    /// and `need_items`; otherwise changes nothing.
     #[inline(always)]
     pub fn is_full(
         &mut self,
@@ -66,7 +68,8 @@ impl Block {
         false
     }
 
-    /// Counts an item that was taken: `count` words or bytes, and the places that it wrote to each buffer.
+    /// Counts an item that was taken, which has `count` words or bytes, and the elements that it wrote to
+    /// each buffer.
     #[inline(always)]
     pub fn add(&mut self, count: usize, written: usize, items: usize)
         requires taken { self.old.taken + count < 2 ^ 64 }

@@ -2,7 +2,8 @@
 ghost use Rattle.std.specs.Prelude.{◌≡◌, ◌≤◌, length};
 ghost use Rattle.c_answers.specs.Fronts.{with_front};
 
-/// Copies bytes to the front of a buffer that has room for all of them, and returns their number.
+/// Copies bytes to the front of a buffer that is large enough for all of them, and returns the number of
+/// bytes.
 #[inline(always)]
 pub fn put_bytes(bytes: &[u8], buffer: &mut [u8]) -> usize
     requires { length bytes.now ≤ length buffer.old }
@@ -13,7 +14,8 @@ pub fn put_bytes(bytes: &[u8], buffer: &mut [u8]) -> usize
     bytes.len()
 }
 
-/// Copies words in the same way.
+/// Copies words to the front of a buffer that is large enough for all of them, and returns the number of
+/// words.
 #[inline(always)]
 pub fn put_words(words: &[u32], buffer: &mut [u32]) -> usize
     requires { length words.now ≤ length buffer.old }

@@ -1,10 +1,10 @@
-// The numbers of the kinds of lines, as the header has them.
+// The numbers that the header gives to the kinds of lines.
 ghost use Rattle.std.specs.Prelude.{◌≡◌};
 ghost use Rattle.c_answers.specs.Numbers.{kind_number};
 
 use listing_terms::Kind;
 
-/// The number of a kind, from 1 on.
+/// Returns the number of a kind, from 1 on.
 pub fn kind_number(kind: Kind) -> u8
     ensures { result ≡ kind_number kind }
 {

@@ -1,7 +1,8 @@
-// A law on all streams.
+// A law that holds for all streams.
 ghost use Rattle.c_answers.specs.Within.{ExclusivesStayWithinTheirLimit};
 
-/// Neither an exclusive that a parser has open nor one that a byte completes exceeds the parser's limit.
+/// An exclusive that a parser has open doesn't exceed the parser's limit, and neither does one that a byte
+/// completes.
 #[tactic(auto, using(crate::proofs::WithinLaws::parse_within))]
 pub fn exclusives_stay_within_their_limit()
     ensures { ExclusivesStayWithinTheirLimit }

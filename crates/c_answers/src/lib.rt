@@ -1,5 +1,7 @@
-//! What the calls of the library for C return: statuses, lines of the listing, outcomes, how far a block call
-//! came, and what is written to the caller's buffers.
+//! The results of the calls of the library for C: statuses, lines of the listing, outcomes of bytes, how far
+//! a block call came, and the data that is written to the caller's buffers.
+//!
+//! Start with [`Status`], [`Block`] and [`ByteOutcome`].
 #![tactic(auto)]
 
 pub mod block;

@@ -1,4 +1,4 @@
-// A line of the listing, as a caller gets it.
+// A line of the listing, in the form in which a caller gets it.
 ghost use Rattle.std.specs.Prelude.{◌≡◌};
 ghost use Rattle.c_answers.specs.Lines.{line_of, listed_line, no_line};
 
@@ -9,21 +9,21 @@ use listing_terms::{Kind, Listed};
 #[repr(C)]
 #[derive(Clone, Copy)]
 pub struct ListingLine {
-    /// The offset of what it reports, as the caller numbered it; 0 if there is no line.
+    /// The offset that the line reports, as the caller numbered it; 0 if there is no line.
     pub offset: u64,
-    /// The number of its kind; 0 if there is no line.
+    /// The number of the line's kind; 0 if there is no line.
     pub kind: u8,
 }
 
 impl ListingLine {
-    /// The value for no line.
+    /// Returns the value that stands for no line.
     pub fn none() -> ListingLine
         ensures { result ≡ no_line }
     {
         ListingLine { offset: 0, kind: 0 }
     }
 
-    /// Makes a line of this kind and offset.
+    /// Creates a line with this kind and offset.
     pub fn of(kind: Kind, offset: u64) -> ListingLine
         ensures { result ≡ line_of (kind, offset) }
     {
@@ -33,7 +33,7 @@ impl ListingLine {
         }
     }
 
-    /// Makes a line, or the value for none; its group is left out.
+    /// Creates a line, or the value that stands for no line. The group is left out.
     pub fn listed(listed: Option<Listed>) -> ListingLine
         ensures { result ≡ listed_line listed }
     {

@@ -4,24 +4,24 @@ ghost use Rattle.c_answers.specs.Outcomes.{empty_outcome, is_told, needing, no_o
 
 use crate::line::ListingLine;
 
-/// The outcome of one byte of a stream: what is written for it, and its lines of the listing.
+/// The outcome of one byte of a stream: how much was written for it, and its lines of the listing.
 #[repr(C)]
 #[derive(Clone, Copy)]
 pub struct ByteOutcome {
-    /// The number of places written to the buffer: words or bytes.
+    /// The number of elements written to the buffer: words or bytes.
     pub written: usize,
-    /// After `SmallBuffer`, the size of a buffer that does. Otherwise 0.
+    /// After `SmallBuffer`, a sufficient buffer size. Otherwise 0.
     pub need: usize,
     /// The offset of the byte, as the caller numbered it.
     pub offset: u64,
-    /// If the byte cuts something off, what that is; otherwise what the byte is.
+    /// If the byte cuts something off, the line for what it cuts off; otherwise the line for the byte itself.
     pub first: ListingLine,
-    /// If the byte cuts something off, what the byte is.
+    /// If the byte cuts something off, the line for the byte itself.
     pub second: ListingLine,
 }
 
 impl ByteOutcome {
-    /// The outcome of a call that looked at no byte.
+    /// Returns the outcome of a call that handled no byte.
     #[inline(always)]
     pub fn none() -> ByteOutcome
         ensures { result ≡ no_outcome }
@@ -29,7 +29,7 @@ impl ByteOutcome {
         ByteOutcome::empty(0)
     }
 
-    /// The outcome of the byte at this offset, for which nothing was written and which has no line.
+    /// Returns the outcome of the byte at this offset if nothing was written for it and it has no line.
     #[inline(always)]
     pub fn empty(offset: u64) -> ByteOutcome
         ensures { result ≡ empty_outcome offset }
@@ -37,7 +37,8 @@ impl ByteOutcome {
         ByteOutcome::of(offset, 0, ListingLine::none(), ListingLine::none())
     }
 
-    /// The outcome of the byte at this offset, by the number of places written for it and its lines.
+    /// Returns the outcome of the byte at this offset, with the number of elements written for it and its
+    /// lines.
     #[inline(always)]
     pub fn of(offset: u64, written: usize, first: ListingLine, second: ListingLine) -> ByteOutcome
         ensures { result ≡ outcome_of offset written first second }
@@ -51,8 +52,8 @@ impl ByteOutcome {
         }
     }
 
-    /// The outcome of the byte at this offset if the buffer was too small, so that it wasn't taken; one of
-    /// this size does.
+    /// Returns the outcome of the byte at this offset if the buffer was too small, so that the byte wasn't
+    /// taken. `size` is a sufficient buffer size.
     #[inline(always)]
     pub fn needing(offset: u64, size: usize) -> ByteOutcome
         ensures { result ≡ needing offset size }
@@ -66,7 +67,7 @@ impl ByteOutcome {
         }
     }
 
-    /// Whether something was written for the byte, or it has a line.
+    /// Returns whether something was written for the byte, or it has a line.
     #[inline(always)]
     pub fn is_told(&self) -> bool
         ensures { result ≡ is_told self.now }

@@ -6,10 +6,10 @@ ghost use Rattle.c_answers.specs.Refusals.{status_of_bad, status_of_step};
 use listing_terms::BadStep;
 use ump_grammar::Bad;
 
-/// The status that a call returns: that it is done, or why it isn't.
+/// The status that a call returns: success, or the reason for the failure.
 #[derive(Clone, Copy, Debug)]
 pub enum Status {
-    /// It is done.
+    /// The call did all that it was asked for.
     Done,
     /// There isn't enough memory.
     NoMemory,
@@ -17,27 +17,27 @@ pub enum Status {
     HandleClosed,
     /// The handle is open already.
     AlreadyOpen,
-    /// The limit of an exclusive, or a room of a running state, is out of range.
+    /// The limit of an exclusive, or a capacity of a running state, is out of range.
     BadRoom,
-    /// The number of words isn't that of the first one's message type.
+    /// The number of words isn't the number that the first word's message type has.
     BadWordCount,
-    /// A buffer is too small for what the call may have to write; nothing more was taken.
+    /// A buffer is too small for what the call may have to write. Nothing more was taken.
     SmallBuffer,
-    /// A packet of an exclusive counts more than six bytes.
+    /// A packet of an exclusive has a count above six bytes.
     BadCount,
     /// A data byte has its high bit set.
     HighBit,
-    /// A control change 96, data increment.
+    /// The message is a control change 96, data increment.
     DataIncrement,
-    /// A control change 97, data decrement.
+    /// The message is a control change 97, data decrement.
     DataDecrement,
     /// An exclusive has more bytes than the limit.
     ExclusiveTooLong,
     /// A group or a cable isn't 0 to 15.
     BadGroup,
-    /// What was asked for doesn't exist.
+    /// The caller asked for something that doesn't exist.
     Nothing,
-    /// The handle is open for something else.
+    /// The handle is open for another kind of object.
     OtherKind,
     /// The number of streams isn't 1 to 64.
     BadStreams,
@@ -47,20 +47,20 @@ pub enum Status {
     SetupRule,
     /// There is no scaling between these widths.
     BadBits,
-    /// A value has more bits than its width.
+    /// A value doesn't fit in its width.
     BadValue,
-    /// The message adds to a list of the running state that is full.
+    /// The message would add to a list of the running state that is full.
     StateFull,
-    /// A flag is set that the call doesn't have.
+    /// A flag is set that the call doesn't accept.
     BadFlags,
-    /// The number of bytes isn't the one that the call takes.
+    /// The number of bytes isn't the one that the call requires.
     BadSize,
-    /// A channel isn't 0 to 15, nor 255 for none.
+    /// A channel is neither 0 to 15 nor 255, which stands for none.
     BadChannel,
 }
 
 impl Status {
-    /// The number that the header gives it.
+    /// Returns the number that the header gives to this status.
     #[inline(always)]
     pub fn number(self) -> u32
         ensures { result ≡ number_of self }
@@ -93,7 +93,7 @@ impl Status {
         }
     }
 
-    /// The status of words that no packet has.
+    /// Returns the status for words that no packet has.
     pub fn of_bad(bad: Bad) -> Status
         ensures { result ≡ status_of_bad bad }
     {
@@ -103,7 +103,7 @@ impl Status {
         }
     }
 
-    /// The status of a packet or a byte that is refused.
+    /// Returns the status for a packet or a byte that is refused.
     pub fn of_step(bad: BadStep) -> Status
         ensures { result ≡ status_of_step bad }
     {

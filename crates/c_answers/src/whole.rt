@@ -1,4 +1,4 @@
-// The words of a packet, as a caller passes them.
+// The words of a packet, in the form in which a caller passes them.
 ghost use Rattle.std.specs.Prelude.{◌≡◌, MatchOption, true, false};
 ghost use Rattle.packet_words.specs.Words.{IsWhole};
 ghost use Rattle.c_answers.specs.Whole.{is_whole};
@@ -6,8 +6,8 @@ ghost use Rattle.c_answers.specs.Whole.{is_whole};
 use packet_words::words::words_in_packet;
 use packet_words::{Framed, Words};
 
-/// Returns the words as one packet at this offset; `None` exactly if their number isn't that of the first
-/// one's message type (M2-104-UM, message types).
+/// Returns the words as one packet at this offset, or `None` exactly if their number isn't the number that
+/// the first word's message type has (M2-104-UM, message types).
 #[inline(always)]
 pub fn framed(words: &[u32], offset: u64) -> Option<Framed>
     ensures { MatchOption result (is_whole words.now ≡ false) (λ framed. (framed.words ≡ words.now)

@@ -19,11 +19,11 @@ use std::marker::Model;
 use ump_endpoint::{Endpoint, Key, MOST_REPLY_WORDS};
 use ump_grammar::{Packet, decode};
 
-/// An endpoint that answers a peer, and writes its replies to the caller's buffers. A contract sees the state
-/// of the endpoint.
+/// An endpoint that answers a peer, and writes its replies to the caller's buffers. In contracts its value is
+/// the state of the endpoint.
 #[derive(Drop)]
 pub struct CEndpoint {
-    // On the heap, since it is larger than the other engines, and opening moves it.
+    // On the heap, because it is larger than the other engines, and opening a handle moves it.
     endpoint: Box<Endpoint>,
 }
 
@@ -35,8 +35,8 @@ impl Model for CEndpoint {
     ghost view = { λ e. e.endpoint.value.held };
 }
 
-// The setup in a text. To read it needs much of the stack, so the call isn't inlined: its frame is gone when
-// the endpoint is made.
+// Reads the setup in a text. Reading it needs much of the stack, so the call isn't inlined: its frame is gone
+// when the endpoint is created.
 #[inline(never)]
 fn read_setup(alloc: Global, text: &[u8]) -> Result<Setup, SetupFault>
     ensures { MeetsRead (setup_of text.now) result }
@@ -44,7 +44,7 @@ fn read_setup(alloc: Global, text: &[u8]) -> Result<Setup, SetupFault>
     Setup::read(alloc, text)
 }
 
-// The packet that the words encode, or the reason why no packet has them.
+// Returns the packet that the words encode, or the reason why no packet has them.
 fn read(words: &[u32], offset: u64) -> Result<Packet, Status>
     ensures { IsRead words.now result }
 {
@@ -57,7 +57,7 @@ fn read(words: &[u32], offset: u64) -> Result<Packet, Status>
     }
 }
 
-// Takes the packet that the words encode, and writes the words of the replies to it.
+// Takes the packet that the words encode, and writes the words of the replies.
 fn take(
     endpoint: &mut Endpoint,
     words: &[u32],
@@ -122,8 +122,9 @@ impl CEndpoint {
     ghost use Rattle.std.specs.Prelude.{IfOk};
     ghost use Rattle.ump_endpoint.specs.Held.{new_endpoint};
 
-    /// Makes an endpoint of this setup, to which nothing has come, for exclusives of `room` bytes, 6 to
-    /// 1,048,576 (own rule). Takes all memory that it ever needs; `NoMemory` if there isn't that much.
+    /// Creates an endpoint of this setup that has received nothing, for exclusives of `room` bytes, 6 to
+    /// 1,048,576 (own rule). Allocates all the memory that the endpoint will ever need. Returns `NoMemory` if
+    /// there isn't enough.
     #[inline(never)]
     pub fn new(alloc: Global, setup: Setup, room: u32) -> Result<CEndpoint, NoMemory>
         requires least { 6 ≤ room }
@@ -137,9 +138,10 @@ impl CEndpoint {
         }
     }
 
-    /// Makes an endpoint of the setup in a text (docs/setup.md). `Err` is `SetupSyntax` if the text isn't
-    /// UTF-8, or isn't TOML; `SetupRule` if it breaks a rule, and then the number of the first one, 0 to 31,
-    /// is written to `rule`; or `NoMemory`, which may also come for a text with a fault.
+    /// Creates an endpoint of the setup in a text (docs/setup.md). Returns `SetupSyntax` if the text isn't
+    /// UTF-8 or isn't TOML. Returns `SetupRule` if the text breaks a rule, and then writes the number of the
+    /// first such rule, 0 to 31, to `rule`. Returns `NoMemory` if there isn't enough memory, possibly also
+    /// for a text with a fault.
     pub fn opened(alloc: Global, text: &[u8], room: u32, rule: &mut u8) -> Result<CEndpoint, Status>
         requires least { 6 ≤ room }
         requires most { room ≤ 1048576 }
@@ -162,10 +164,11 @@ impl CEndpoint {
     /// Takes one packet of the peer, and writes the words of the replies to the front of the buffer, packet
     /// after packet (M2-104-UM, UMP stream messages; M2-101-UM).
     ///
-    /// Returns the first that applies of `SmallBuffer` if the buffer has fewer than 1,024 words, which are
-    /// enough for any replies; `BadWordCount` if the number of words isn't that of the first one's message
-    /// type; `BadCount` or `HighBit` if no packet has them; nothing is taken then. Returns `ExclusiveTooLong`
-    /// if an exclusive exceeds the limit: it is dropped, and nothing is written (own rules).
+    /// Returns the first of these that applies, and then takes nothing: `SmallBuffer` if the buffer has fewer
+    /// than 1,024 words, which are enough for any replies; `BadWordCount` if the number of words isn't the
+    /// number that the first word's message type has; `BadCount` or `HighBit` if no packet has these words.
+    /// Returns `ExclusiveTooLong` if an exclusive exceeds the limit. Then the exclusive is dropped, and
+    /// nothing is written (own rules).
     pub fn packet(
         &mut self,
         words: &[u32],
@@ -192,14 +195,16 @@ impl CEndpoint {
         }
     }
 
-    /// Takes packets of the peer whose words follow one another, each as `packet` does. The words of the
-    /// replies follow one another in the buffer, and `replies` has an item for each packet. The offset is
-    /// that of the first packet; each word adds 4 to it, modulo 2^64. The block says how far the call came.
+    /// Takes packets of the peer whose words follow one another, each as `packet` does. Writes the words of
+    /// the replies to the buffer, one packet after the other, and an element of `replies` for each packet of
+    /// the peer. The offset is the offset of the first packet; each word adds 4 to it, modulo 2^64. `block`
+    /// says how far the call came.
     ///
-    /// Returns `Done` if all words are taken; `SmallBuffer` before a packet for which no item is left, or for
-    /// which the rest of the buffer has fewer than 1,024 words; `BadWordCount` before a last packet whose
-    /// words aren't all there. A packet that is refused ends the call with its status, has no item, and its
-    /// words count as taken and as refused (own rules).
+    /// Returns `Done` if all words are taken. Returns `SmallBuffer` before a packet for which no element of
+    /// `replies` is left, or for which the rest of the buffer has fewer than 1,024 words. Returns
+    /// `BadWordCount` before a last packet whose words are incomplete. A packet that is refused ends the call
+    /// with its status. It has no element of `replies`, and its words count as taken and as refused (own
+    /// rules).
     pub fn packets(
         &mut self,
         words: &[u32],
@@ -214,8 +219,9 @@ impl CEndpoint {
         take_all(&mut self.endpoint, words, offset, buffer, replies, block)
     }
 
-    /// Makes the endpoint as `new` makes it of the same setup and limit: with the MUIDs, the profiles and the
-    /// protocol of the setup, and nothing open (own rule). Takes no memory.
+    /// Returns the endpoint to the state in which `new` creates it with the same setup and limit: the MUIDs,
+    /// the profiles and the protocol are those of the setup, and nothing is open (own rule). The call doesn't
+    /// allocate.
     pub fn reset(&mut self)
         ensures { self.new ≡ reset_endpoint self.old }
     {
@@ -229,9 +235,8 @@ impl CEndpoint {
         self.endpoint.protocol()
     }
 
-    /// Writes the MUID in force of a function block, counted from 0 (M2-101-UM). Returns `Nothing` if the
-    /// block has no MIDI-CI or has used up its MUIDs, or if there is no such block; the number is then
-    /// unchanged.
+    /// Writes the MUID in force of a function block, counted from 0 (M2-101-UM). Returns `Nothing` if there
+    /// is no such block, or if it has no MIDI-CI or has used up its MUIDs; the number is then unchanged.
     pub fn muid(&self, block: u8, muid: &mut u32) -> Status
         ensures { IsMuid self.now block (number_of result) muid.old muid.new }
     {
@@ -244,7 +249,7 @@ impl CEndpoint {
         }
     }
 
-    // Whether a profile of the setup is on.
+    // Returns whether a profile of the setup is enabled.
     fn is_on(&self, profile: &Profile) -> bool
         ensures { result ≡ is_on_in self.now profile.now }
     {
@@ -257,8 +262,8 @@ impl CEndpoint {
         self.endpoint.profile_is_on(&key).unwrap_or(profile.on)
     }
 
-    /// Writes a profile, counted from 0 in the order of the setup, and whether it is on. Returns `Nothing`,
-    /// and writes an empty profile, if there is no such profile.
+    /// Writes a profile and whether it is enabled. Profiles are counted from 0 in the order of the setup.
+    /// Returns `Nothing`, and writes an empty profile, if there is no such profile.
     pub fn profile(&self, index: usize, profile: &mut EndpointProfile) -> Status
         ensures { IsProfile self.now index (number_of result) profile.new }
     {
@@ -274,8 +279,8 @@ impl CEndpoint {
         }
     }
 
-    /// Writes the offset of the packet that began the exclusive of a group. Returns `BadGroup` if the group
-    /// is above 15, and `Nothing` if the group has none open; the offset is then unchanged.
+    /// Writes the offset of the packet with which a group's open exclusive began. Returns `BadGroup` if the
+    /// group is above 15, and `Nothing` if the group has no open exclusive; the offset is then unchanged.
     pub fn begun(&self, group: u8, offset: &mut u64) -> Status
         ensures { IsBegun self.now group (number_of result) offset.old offset.new }
     {

@@ -1,10 +1,10 @@
-// The numbers of what became of a message, as the header has them.
+// The numbers that the header gives to what an endpoint did with a message.
 ghost use Rattle.std.specs.Prelude.{◌≡◌};
 ghost use Rattle.c_endpoint.specs.Numbers.{fault_number as number_of_fault, heard_number as number_of_outcome, hearing_number as number_of_hearing};
 
 use ump_endpoint::{CiFault, Heard, Outcome};
 
-// The number of the first fault of an exclusive.
+// Returns the number of the first fault of an exclusive.
 fn fault_number(fault: CiFault) -> u8
     ensures { result ≡ number_of_fault fault }
 {
@@ -16,7 +16,7 @@ fn fault_number(fault: CiFault) -> u8
     }
 }
 
-// The number of how a message of MIDI-CI was heard.
+// Returns the number of the way in which a MIDI-CI message was heard.
 fn hearing_number(heard: Heard) -> u8
     ensures { result ≡ number_of_hearing heard }
 {
@@ -35,7 +35,7 @@ fn hearing_number(heard: Heard) -> u8
     }
 }
 
-/// The number of what became of a message; 0 if a packet ended none.
+/// Returns the number of what an endpoint did with a message; 0 if a packet ended no message.
 pub fn heard_number(outcome: Option<Outcome>) -> u8
     ensures { result ≡ number_of_outcome outcome }
 {

@@ -1,5 +1,8 @@
-//! The endpoint of the library for C as a safe type: it takes packets of a peer, and writes the words of the
-//! replies to the caller's buffer.
+//! Runs the endpoint of the library for C as a safe type: takes packets of a peer, and writes the words of
+//! the replies to the caller's buffer.
+//!
+//! Start with [`CEndpoint`]: `opened` reads the text of a setup and allocates, and `packet` takes one packet
+//! and writes [`PacketReplies`].
 #![tactic(auto)]
 
 pub mod endpoint;

@@ -4,27 +4,28 @@ ghost use Rattle.c_endpoint.specs.Profiles.{no_profile, profile_of};
 
 use function_blocks::{Place, Profile};
 
-// The number of no group or channel of a profile (own rule).
+// The number that stands for no group or channel of a profile (own rule).
 const NO_PLACE: u8 = 255;
 
-/// A profile of the setup, and whether it is on now.
+/// A profile of the setup, and whether it is enabled now.
 #[repr(C)]
 #[derive(Clone, Copy)]
 pub struct EndpointProfile {
-    /// Its function block, counted from 0.
+    /// The number of the profile's function block, counted from 0.
     pub block: u8,
-    /// Its group, 0 to 15; 255 if it is of the whole function block.
+    /// The profile's group, 0 to 15; 255 if the profile is for the whole function block.
     pub group: u8,
-    /// Its channel, 0 to 15; 255 if it is of a whole group or of the whole function block.
+    /// The profile's channel, 0 to 15; 255 if the profile is for a whole group or for the whole function
+    /// block.
     pub channel: u8,
-    /// Its id, five bytes below 128 (M2-101-UM, profile id).
+    /// The profile's id, five bytes below 128 (M2-101-UM, profile id).
     pub id: [u8; 5],
-    /// Whether it is on.
+    /// Whether the profile is enabled.
     pub is_on: bool,
 }
 
 impl EndpointProfile {
-    /// The value for no profile.
+    /// Returns the value that stands for no profile.
     pub fn none() -> EndpointProfile
         ensures { result ≡ no_profile }
     {
@@ -37,7 +38,7 @@ impl EndpointProfile {
         }
     }
 
-    /// Makes the value of a profile of the setup, which is on or off.
+    /// Returns the value for a profile of the setup, which is enabled or disabled.
     pub fn of(profile: &Profile, is_on: bool) -> EndpointProfile
         ensures { result ≡ profile_of profile.now is_on }
     {

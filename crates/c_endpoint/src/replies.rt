@@ -13,20 +13,21 @@ use ump_grammar::Packet;
 pub struct PacketReplies {
     /// The number of words of replies written, packet after packet.
     pub written: usize,
-    /// If the buffer is too small, the number of words that it needs; otherwise 0.
+    /// If the buffer is too small, a sufficient number of words; otherwise 0.
     pub need: usize,
-    /// The offset of the line of the listing: of the packet if it is stray, or of the first one of the
-    /// exclusive that it cuts off. 0 if there is no line.
+    /// The offset of the line of the listing: that of the packet if it is stray, or that of the first packet
+    /// of the exclusive that it cuts off. 0 if there is no line.
     pub offset: u64,
-    /// What became of the message that the packet ended; 0 if it ended none.
+    /// The number of what the endpoint did with the message that the packet ended; 0 if the packet ended
+    /// none.
     pub heard: u8,
     /// The group of a packet of an exclusive, 0 to 15; 255 for all other packets.
     pub group: u8,
-    /// The number of the kind of the line; 0 if there is no line.
+    /// The number of the line's kind; 0 if there is no line.
     pub kind: u8,
 }
 
-// The group of a packet of an exclusive; 255 for all other packets.
+// Returns the group of a packet of an exclusive; 255 for all other packets.
 fn group_number(packet: &Packet) -> u8
     ensures { result ≡ group_number packet.now }
 {
@@ -37,7 +38,7 @@ fn group_number(packet: &Packet) -> u8
 }
 
 impl PacketReplies {
-    /// The value for a packet without replies.
+    /// Returns the value for a packet without replies.
     #[inline(always)]
     pub fn none() -> PacketReplies
         ensures { result ≡ no_replies }
@@ -52,7 +53,8 @@ impl PacketReplies {
         }
     }
 
-    /// The value for a packet that wasn't taken, since the buffer was too small; one of this size does.
+    /// Returns the value for a packet that wasn't taken because the buffer was too small. `size` is a
+    /// sufficient buffer size.
     pub fn needing(size: usize) -> PacketReplies
         ensures { result ≡ needing size }
     {
@@ -62,7 +64,8 @@ impl PacketReplies {
         }
     }
 
-    /// The value for a packet that was taken, by what was done with it and the number of words written.
+    /// Returns the value for a packet that was taken, by what was done with it and the number of words
+    /// written.
     pub fn of(packet: &Packet, taken: &Taken, words: usize) -> PacketReplies
         ensures { result ≡ replies_of packet.now taken.now words }
     {

@@ -1,10 +1,10 @@
-// What a handle holds.
+// The engine that a handle holds.
 use c_endpoint::CEndpoint;
 use c_streams::{CParser, CSysex8, CUsb};
 use c_translators::{CDown, CUp};
 use c_voice_state::{CByteState, CPacketState};
 
-/// What a handle was opened for.
+/// The object that a handle was opened for.
 #[derive(Drop)]
 pub enum Engine {
     /// A translator of packets to MIDI 1.0 bytes.

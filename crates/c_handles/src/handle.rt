@@ -1,4 +1,4 @@
-// The handle: a struct of the caller's in C.
+// The handle: a struct that the C caller owns.
 ghost use Rattle.std.specs.Prelude.{◌≡◌, Option, Some, None};
 ghost use Rattle.std.specs.Option.{option_map};
 ghost use Rattle.std.specs.Coded.{coded_option};
@@ -13,8 +13,8 @@ use c_answers::Status;
 use std::alloc::Global;
 use std::marker::Model;
 
-/// A struct of the caller's in C: the address of an engine on the heap if it is open, or nothing if it is
-/// closed. A contract sees the engine that it holds.
+/// A struct that the C caller owns: the address of an engine on the heap if the handle is open, or nothing if
+/// it is closed. In contracts its value is the engine that it holds.
 #[repr(C)]
 pub struct Handle {
     at: *mut u8,
@@ -31,11 +31,11 @@ impl Model for Handle {
     ghost also_owns = { λ h. held the_row h.is_open h.at h.holds };
 }
 
-// One call at a time uses a handle, and no engine depends on the thread that opened it.
+// Only one call at a time uses a handle, and no engine depends on the thread that opened it.
 unsafe impl Send for Handle {}
 
 impl Handle {
-    /// Makes a closed handle, which is all zero.
+    /// Creates a closed handle, which is all zero.
     #[inline(always)]
     pub fn closed() -> Handle
         ensures { result.holds ≡ None }
@@ -46,7 +46,7 @@ impl Handle {
         }
     }
 
-    // Makes an open handle of a box that was taken apart.
+    // Creates an open handle from a box that was taken apart.
     #[inline(always)]
     fn of(parted: Parted<Engine, Global>) -> Handle
         ensures { result.holds ≡ Some parted.value }
@@ -58,7 +58,7 @@ impl Handle {
         }
     }
 
-    // Returns what it holds, as a box that was taken apart.
+    // Returns the engine that the handle holds, as a box that was taken apart.
     #[inline(always)]
     fn into_parted(self, alloc: Global) -> Option<Parted<Engine, Global>>
         ensures { option_map (λ l. l.value) result ≡ self.holds }
@@ -74,8 +74,8 @@ impl Handle {
         }
     }
 
-    // Gives up a handle and returns its flag. It frees nothing, so it would leak what an open handle holds:
-    // `put` calls it only over a closed one.
+    // Gives up a handle and returns its flag. It frees nothing, so giving up an open handle would leak its
+    // engine. `put` calls it only for a closed one.
     #[inline(always)]
     fn let_go(self) -> usize
         ensures { result ≡ self.is_open }
@@ -84,7 +84,7 @@ impl Handle {
         is_open
     }
 
-    /// Returns what it holds; `None` exactly if it is closed.
+    /// Returns the engine that the handle holds, or `None` exactly if the handle is closed.
     #[inline(always)]
     pub fn into_box(self, alloc: Global) -> Option<Box<Engine>>
         ensures { option_map (λ b. b.value) result ≡ self.holds }
@@ -95,8 +95,9 @@ impl Handle {
         }
     }
 
-    /// Takes out what it holds, as a box that was taken apart, and leaves it closed. The caller makes the box
-    /// again by `into_box`; otherwise its memory leaks, and no clause says so.
+    /// Takes the engine out of the handle, as a box that was taken apart, and leaves the handle closed. The
+    /// caller must turn it into a box again with `into_box`; otherwise its memory leaks, and no clause
+    /// prevents that.
     #[inline(always)]
     pub fn take_parted(&mut self, alloc: Global) -> Option<Parted<Engine, Global>>
         ensures closed { self.new.holds ≡ None }
@@ -105,7 +106,8 @@ impl Handle {
         std::mem::replace(self, Handle::closed()).into_parted(alloc)
     }
 
-    /// Takes out what it holds, and leaves it closed. `None` exactly if it was closed.
+    /// Takes the engine out of the handle, and leaves the handle closed. Returns `None` exactly if the handle
+    /// was closed.
     #[inline(always)]
     pub fn take(&mut self, alloc: Global) -> Option<Box<Engine>>
         ensures closed { self.new.holds ≡ None }
@@ -123,8 +125,8 @@ impl Handle {
         let _was_open = std::mem::replace(self, Handle::of(Parted::of(value))).let_go();
     }
 
-    /// Opens a closed handle with this engine, for which it takes memory. Returns `NoMemory` if there isn't
-    /// enough; the handle then stays closed.
+    /// Opens a closed handle with this engine, for which it allocates memory. Returns `NoMemory` if there
+    /// isn't enough; the handle then stays closed.
     pub fn fill(&mut self, alloc: Global, engine: Engine) -> Status
         requires { self.old.holds ≡ None }
         ensures { IsFilled engine (number_of result) self.new.holds }

@@ -1,5 +1,7 @@
-//! The handles of the library for C: a struct owned by the caller, which contains the address of a heap block
-//! that only the library uses.
+//! Implements the handles of the library for C. A handle is a struct owned by the caller, which contains the
+//! address of a heap block that only the library uses.
+//!
+//! Start with [`Handle`], which is closed or holds an [`Engine`].
 #![tactic(auto)]
 
 pub mod engine;

@@ -5,8 +5,8 @@ ghost use Rattle.std.specs.Box.Ownership.{box_owns};
 use std::alloc::Allocator;
 use std::marker::Model;
 
-/// A box that was taken apart: the address of its value, and the allocator that frees it. Only `into_box`
-/// leads to the value being freed.
+/// A box that was taken apart: the address of its value, and the allocator that frees it. The value is only
+/// freed after `into_box`.
 pub struct Parted<T, A: Allocator> {
     pub alloc: A,
     pub address: *mut T,
@@ -27,7 +27,7 @@ impl<T: Drop, A: Allocator> Parted<T, A> {
         Parted { alloc, address }
     }
 
-    /// Makes the box again.
+    /// Turns the parts into a box again.
     #[inline(always)]
     pub fn into_box(self) -> Box<T, A>
         ensures { result.value ≡ self.value }

@@ -1,5 +1,7 @@
-//! The calls of the library for C that need no handle: names for the header's numbers, splitting bytes into
-//! packets, a packet's `show` line, the packets of an 8-bit exclusive, and scaling.
+//! Implements the calls of the library for C that need no handle: names for the header's numbers, splitting
+//! bytes into packets, a packet's `show` line, the packets of an 8-bit exclusive, and scaling.
+//!
+//! Start with [`packets_in`] and [`packet_text`].
 #![tactic(auto)]
 
 pub mod names;

@@ -1,4 +1,4 @@
-// The names of the header by their numbers, without their prefix.
+// The names in the header by their numbers, without their prefix.
 ghost use Rattle.std.specs.Prelude.{◌≡◌, map};
 ghost use Rattle.c_answers.specs.Numbers.{number_of};
 ghost use Rattle.c_endpoint.specs.Numbers.{heard_number};
@@ -7,7 +7,7 @@ ghost use Rattle.c_pure.specs.Words.{heard_word, kind_word, line_number, status_
 
 use c_answers::{Status, put_bytes};
 
-// The statuses, from 0 on.
+// The names of the statuses, from 0 on.
 const STATUSES: [&str; 24] = [
     "DONE",
     "NO_MEMORY",
@@ -35,7 +35,7 @@ const STATUSES: [&str; 24] = [
     "BAD_CHANNEL",
 ];
 
-// The kinds of lines, from 0 on.
+// The names of the kinds of lines, from 0 on.
 const KINDS: [&str; 22] = [
     "NO_LINE",
     "UTILITY",
@@ -61,7 +61,7 @@ const KINDS: [&str; 22] = [
     "IGNORED_DATA_ENTRY",
 ];
 
-// What an endpoint did with a message, from 0 on.
+// The names of what an endpoint did with a message, from 0 on.
 const HEARD: [&str; 18] = [
     "NOTHING",
     "NOT_CI",
@@ -83,7 +83,7 @@ const HEARD: [&str; 18] = [
     "BAD_FORMAT",
 ];
 
-// Writes the name with this number, and its length in bytes.
+// Writes the name with this number, and the length of the name in bytes.
 fn put_name(names: &[&str], number: u32, text: &mut [u8], length: &mut usize) -> Status
     ensures { IsNamed (map (λ name. name.now) names.now) number
         text.old (number_of result) text.new length.new }
@@ -99,30 +99,31 @@ fn put_name(names: &[&str], number: u32, text: &mut [u8], length: &mut usize) ->
     Status::Done
 }
 
-/// Writes the name of a status to the front of the buffer, as the header has it after its prefix, and its
-/// length in bytes to `length` (own rule). `Nothing` if no status has the number; `SmallBuffer` if the name
-/// doesn't fit, which never happens with 32 bytes. Then nothing is written, and the length is 0.
+/// Writes the name of a status to the front of the buffer, as the header has it after its prefix, and the
+/// name's length in bytes to `length` (own rule). Returns `Nothing` if no status has the number. Returns
+/// `SmallBuffer` if the name doesn't fit, which never happens with 32 bytes. In both cases nothing is written
+/// to the buffer, and the length is 0.
 pub fn status_name(number: u32, text: &mut [u8], length: &mut usize) -> Status
     ensures { IsNamed status_names number text.old (number_of result) text.new length.new }
 {
     put_name(&STATUSES, number, text, length)
 }
 
-/// Writes the name of a kind of line, in the same way.
+/// Writes the name of a kind of line, in the same way as `status_name`.
 pub fn kind_name(number: u32, text: &mut [u8], length: &mut usize) -> Status
     ensures { IsNamed kind_names number text.old (number_of result) text.new length.new }
 {
     put_name(&KINDS, number, text, length)
 }
 
-/// Writes the name of what an endpoint did with a message, in the same way.
+/// Writes the name of what an endpoint did with a message, in the same way as `status_name`.
 pub fn heard_name(number: u32, text: &mut [u8], length: &mut usize) -> Status
     ensures { IsNamed heard_names number text.old (number_of result) text.new length.new }
 {
     put_name(&HEARD, number, text, length)
 }
 
-/// A buffer of 32 bytes takes each of these names.
+/// Each of these names fits in a buffer of 32 bytes.
 pub fn words_have_at_most_32_bytes()
     ensures statuses { AreShort status_names }
     ensures kinds { AreShort kind_names }
@@ -130,7 +131,7 @@ pub fn words_have_at_most_32_bytes()
 {}
 
 /// The name at the number of each status is that status's own, and there are no other names. The same is true
-/// of the kinds of lines, where 0 stands for no line, and of what an endpoint did with a message.
+/// for the kinds of lines, where 0 stands for no line, and for what an endpoint did with a message.
 pub fn words_are_those_of_the_numbers()
     ensures statuses { AreWordsOf number_of status_word status_names }
     ensures kinds { AreWordsOf line_number kind_word kind_names }

@@ -1,4 +1,4 @@
-// Bytes as the words of packets.
+// Cuts bytes into the words of packets.
 ghost use Rattle.std.specs.Prelude.{◌≡◌, ◌≤◌, ◌*◌, Some, length, take, MatchResult};
 ghost use Rattle.packet_words.specs.Words.{IsPacket, words_of};
 ghost use Rattle.c_answers.specs.Numbers.{number_of};
@@ -8,17 +8,17 @@ use c_answers::{Block, Status, put_words};
 use packet_words::words::{word_in, words_in, words_in_packet};
 use packet_words::{Order, Words};
 
-/// The flag by which the lowest byte of a word comes first.
+/// The flag for words whose lowest byte comes first.
 const LITTLE_ENDIAN: u32 = 8;
 
-// Why no packet is taken, and how many places its words need.
+// The reason why no packet is taken, and how many words its packet needs.
 #[derive(Clone, Copy)]
 struct Stop {
     why: Status,
     need: usize,
 }
 
-// The words of the packet at the front of these bytes, if `places` are enough for them.
+// Returns the words of the packet at the front of these bytes, if `places` are enough for them.
 fn front(order: Order, bytes: &[u8], places: usize) -> Result<Words, Stop>
     ensures { MatchResult result
         (λ words. let own = take (4 * length words) bytes.now in
@@ -45,7 +45,7 @@ fn front(order: Order, bytes: &[u8], places: usize) -> Result<Words, Stop>
     Ok(words_in(order, &bytes[..4 * count]))
 }
 
-// Cuts bytes in this order.
+// Cuts bytes in this byte order.
 fn cut(order: Order, bytes: &[u8], words: &mut [u32], block: &mut Block) -> Status
     ensures { AreCut order bytes.now words.old (number_of result) words.new block.new }
 {
@@ -70,7 +70,7 @@ fn cut(order: Order, bytes: &[u8], words: &mut [u32], block: &mut Block) -> Stat
     }
 }
 
-// The order of bytes that the flags ask for.
+// Returns the byte order that the flags select, or `None` if another flag is set.
 fn order_by(flags: u32) -> Option<Order>
     ensures { result ≡ order_by flags }
 {
@@ -81,14 +81,14 @@ fn order_by(flags: u32) -> Option<Order>
     }
 }
 
-/// Cuts bytes from the front into the words of whole packets (M2-104-UM, message types), and writes the words
-/// to the front of the buffer. The highest byte of each word comes first, or with flag 8 the lowest. `block`
-/// has the numbers of bytes taken and of words written.
+/// Cuts bytes, from the front, into the words of whole packets (M2-104-UM, message types), and writes the
+/// words to the front of the buffer. The highest byte of each word comes first, or the lowest with flag 8.
+/// `block` says how many bytes are taken and how many words are written.
 ///
 /// Returns `BadFlags` if another flag is set, and `Done` if all bytes are taken. Otherwise the status says
 /// why the next packet isn't taken: `BadSize` if fewer than four bytes are left; `SmallBuffer` if its words
-/// don't fit in the rest of the buffer, and `need` is then their number; `BadSize` if its bytes aren't all
-/// there.
+/// don't fit in the rest of the buffer, and then `need` is their number; `BadSize` if its bytes are
+/// incomplete.
 pub fn packets_in(bytes: &[u8], flags: u32, words: &mut [u32], block: &mut Block) -> Status
     ensures { ArePacketsIn bytes.now flags words.old (number_of result) words.new block.new }
 {

@@ -1,4 +1,4 @@
-// Values between widths.
+// Scales values between widths.
 ghost use Rattle.std.specs.Prelude.{◌≡◌, ◌<◌, ◌^◌};
 ghost use Rattle.bit_scaling.specs.Scaling.{IsScaling};
 ghost use Rattle.c_answers.specs.Numbers.{number_of};
@@ -7,7 +7,7 @@ ghost use Rattle.c_pure.specs.Scaling.{IsLowered, IsRaised, raises_value};
 use bit_scaling::{down7, down14, release_down, up};
 use c_answers::Status;
 
-// Raises a value, unless it has more bits than its width.
+// Scales a value up, unless it has more bits than its width.
 fn raise(value: u32, narrow: u32, wide: u32, scaled: &mut u32) -> Status
     requires { IsScaling narrow wide }
     ensures { raises_value value narrow wide scaled.old (number_of result) scaled.new }
@@ -19,10 +19,10 @@ fn raise(value: u32, narrow: u32, wide: u32, scaled: &mut u32) -> Status
     Status::Done
 }
 
-/// Raises a value of 7 bits to 16 or 32, or one of 14 bits to 32: the least, the centre and the greatest
-/// value stay the least, the centre and the greatest (M2-115-U, min-centre-max). `narrow` and `wide` are
-/// widths in bits. Returns `BadBits` for other widths, and `BadValue` if the value has more than `narrow`
-/// bits; nothing is written then.
+/// Scales a value of 7 bits up to 16 or 32, or a value of 14 bits to 32. The least, the centre and the
+/// greatest value stay the least, the centre and the greatest (M2-115-U, min-centre-max). For example, 64 of
+/// 7 bits becomes 32,768 of 16 bits. `narrow` and `wide` are widths in bits. Returns `BadBits` for other
+/// widths, and `BadValue` if the value has more than `narrow` bits; nothing is written then.
 pub fn scale_up(value: u32, narrow: u8, wide: u8, scaled: &mut u32) -> Status
     ensures { IsRaised value narrow wide scaled.old (number_of result) scaled.new }
 {
@@ -34,9 +34,9 @@ pub fn scale_up(value: u32, narrow: u8, wide: u8, scaled: &mut u32) -> Status
     }
 }
 
-/// Writes the upper 7 of 16 bits, or the upper 7 or 14 of 32 (M2-115-U, downscaling). `wide` and `narrow` are
-/// widths in bits. Returns `BadBits` for other widths, and `BadValue` if the value has more than `wide` bits;
-/// nothing is written then.
+/// Scales a value down: writes the upper 7 of 16 bits, or the upper 7 or 14 of 32 (M2-115-U, downscaling).
+/// `wide` and `narrow` are widths in bits. Returns `BadBits` for other widths, and `BadValue` if the value
+/// has more than `wide` bits; nothing is written then.
 pub fn scale_down(value: u32, wide: u8, narrow: u8, scaled: &mut u32) -> Status
     ensures { IsLowered value wide narrow scaled.old (number_of result) scaled.new }
 {

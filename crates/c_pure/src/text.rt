@@ -10,13 +10,13 @@ use ump_grammar::decode;
 /// The most bytes of a line of `show` (own rule).
 const MOST_BYTES: usize = 256;
 
-/// Writes the line that the program's `show` has for the packet of these words at this offset to the front of
-/// the buffer, with its line feed, and its length in bytes to `length` (own rule).
+/// Writes the line of the program's `show` for the packet of these words at this offset to the front of the
+/// buffer, with the line feed, and the line's length in bytes to `length` (own rule).
 ///
-/// Returns the first that applies of `SmallBuffer` if the buffer has fewer than 256 places; `BadWordCount` if
-/// the number of words isn't that of the first one's message type; `BadCount` if they are of a 7-bit
-/// exclusive and count more than six bytes; and `HighBit` if a byte that carries seven bits is 128 or more.
-/// Then nothing is written, and the length is 0.
+/// Returns the first of these that applies: `SmallBuffer` if the buffer has fewer than 256 bytes;
+/// `BadWordCount` if the number of words isn't the number that the first word's message type has; `BadCount`
+/// if the packet is of a 7-bit exclusive and has a count above six bytes; and `HighBit` if a byte that
+/// carries seven bits is 128 or more. Then nothing is written to the buffer, and the length is 0.
 pub fn packet_text(words: &[u32], offset: u64, text: &mut [u8], length: &mut usize) -> Status
     ensures { IsTold words.now offset text.old (number_of result) text.new length.new }
 {

@@ -1,5 +1,9 @@
-//! The readers of the library for C as safe functions: the parser of MIDI 1.0 bytes, the packer of USB-MIDI
-//! events and the join of 8-bit exclusives. Each writes to the caller's buffers, and returns a status.
+//! Reads streams for the library for C, as safe functions: the parser of MIDI 1.0 bytes, the packer of
+//! USB-MIDI events and the join of 8-bit exclusives. Each writes to the caller's buffers and returns a
+//! status.
+//!
+//! Start with [`CParser`], [`CUsb`] or [`CSysex8`]. `new` allocates; `byte` or `packet` takes one item, and
+//! `bytes` or `packets` take many.
 #![tactic(auto)]
 
 pub mod parser;

@@ -19,7 +19,7 @@ use small_types::NoMemory;
 use std::alloc::Global;
 use std::marker::Model;
 
-/// Returns the size, in bytes, of a buffer that takes any message, if exclusives have at most `room` bytes
+/// Returns the size, in bytes, of a buffer that holds any message, if exclusives have at most `room` bytes
 /// between F0 and F7: two bytes more (own rule).
 pub fn parser_size(room: u32) -> usize
     ensures { result ≡ longest_message room }
@@ -27,7 +27,7 @@ pub fn parser_size(room: u32) -> usize
     room as usize + 2
 }
 
-// Writes a whole message, and returns the outcome of the byte at this offset that completes it.
+// Writes a whole message, and returns the outcome of the byte at this offset, which completes the message.
 #[inline(always)]
 fn whole(bytes: &[u8], offset: u64, buffer: &mut [u8]) -> ByteOutcome
     requires { length bytes.now ≤ length buffer.old }
@@ -38,7 +38,7 @@ fn whole(bytes: &[u8], offset: u64, buffer: &mut [u8]) -> ByteOutcome
     ByteOutcome::of(offset, put_bytes(bytes, buffer), none, none)
 }
 
-// The outcome of the byte at this offset, which only has a line.
+// Returns the outcome of the byte at this offset, which only has a line.
 fn listed(kind: Kind, offset: u64) -> ByteOutcome
     ensures { result ≡ outcome_of offset 0 (line_of (kind, offset)) no_line }
 {
@@ -50,7 +50,8 @@ fn listed(kind: Kind, offset: u64) -> ByteOutcome
     )
 }
 
-// The outcome of the byte at this offset, which cuts off what began at `start`.
+// Returns the outcome of the byte at this offset, which cuts off the message or exclusive that began at
+// `start`.
 fn cut(start: u64, what: CutKind, after: AfterCut, offset: u64, buffer: &mut [u8]) -> ByteOutcome
     requires { length (message_in (steps.cut start what after)) ≤ length buffer.old }
     ensures { ShowsStep (steps.cut start what after) offset (message_in (steps.cut start what after))
@@ -75,7 +76,7 @@ fn cut(start: u64, what: CutKind, after: AfterCut, offset: u64, buffer: &mut [u8
     }
 }
 
-// Writes the message that a byte completes, with its status byte, and returns its outcome.
+// Writes the message that a byte completes, with its status byte, and returns the byte's outcome.
 #[inline(always)]
 fn show(step: &Step<'_>, offset: u64, buffer: &mut [u8]) -> Result<ByteOutcome, Status>
     requires framed { LendsFramed step.now }
@@ -105,7 +106,8 @@ fn show(step: &Step<'_>, offset: u64, buffer: &mut [u8]) -> Result<ByteOutcome, 
     }
 }
 
-/// A parser of the bytes of a MIDI 1.0 stream that knows its limit. A contract sees the state of the parser.
+/// A parser of the bytes of a MIDI 1.0 stream, with its limit. In contracts its value is the state of the
+/// parser.
 #[derive(Drop)]
 pub struct CParser {
     parser: Parser,
@@ -126,9 +128,9 @@ impl Model for CParser {
 }
 
 impl CParser {
-    /// Makes a parser with nothing open and no running status, for exclusives of `room` bytes between F0 and
-    /// F7, 6 to 1,048,576 (own rule). Takes all memory that it ever needs; `NoMemory` if there isn't that
-    /// much.
+    /// Creates a parser with nothing open and no running status, for exclusives of `room` bytes between F0
+    /// and F7, 6 to 1,048,576 (own rule). Allocates all the memory that the parser will ever need. Returns
+    /// `NoMemory` if there isn't enough.
     pub fn new(alloc: Global, room: u32) -> Result<CParser, NoMemory>
         requires least { 6 ≤ room }
         requires most { room ≤ 1048576 }
@@ -138,9 +140,9 @@ impl CParser {
         Ok(CParser { parser, room })
     }
 
-    /// Takes one more byte (MIDI 1.0 Detailed Specification), as `take_byte` does. A message is written with
-    /// its status byte, also if that was running; an exclusive from F0 to F7. Any byte may need two places
-    /// more than the limit of an exclusive (`parser_size`).
+    /// Takes one more byte (MIDI 1.0 Detailed Specification), as `take_byte` does. Writes a message with its
+    /// status byte, even if the input left that out (running status), and an exclusive from F0 to F7. Any
+    /// byte may need a buffer of two bytes more than the limit of an exclusive (`parser_size`).
     #[inline]
     pub fn byte(
         &mut self,
@@ -170,15 +172,15 @@ impl CParser {
         take_bytes(self, bytes, offset, buffer, outcomes, block)
     }
 
-    /// Makes the parser as `new` makes it with the same limit: nothing is open, and there is no running
-    /// status (own rule). Takes no memory.
+    /// Returns the parser to the state in which `new` creates it with the same limit: nothing is open, and
+    /// there is no running status (own rule). The call doesn't allocate.
     pub fn reset(&mut self)
         ensures { self.new ≡ idle self.old.room }
     {
         self.parser.reset();
     }
 
-    /// Writes the line of the message or exclusive that is open, with the offset of its first byte. Returns
+    /// Writes the line for the message or exclusive that is open, with the offset of its first byte. Returns
     /// `Nothing`, and writes no line, exactly if nothing is open.
     pub fn end(&self, line: &mut ListingLine) -> Status
         ensures { IsEnd (open_of self.now) (number_of result) line.old line.new }

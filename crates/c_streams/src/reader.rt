@@ -1,4 +1,4 @@
-// A reader of the bytes of a MIDI 1.0 stream, into the caller's buffers.
+// Reads the bytes of a MIDI 1.0 stream into the caller's buffers.
 ghost use Rattle.std.specs.Prelude.{◌≡◌, ◌≤◌, ◌<◌, length};
 ghost use Rattle.c_answers.specs.Fronts.{with_front};
 ghost use Rattle.c_answers.specs.Numbers.{number_of};
@@ -11,12 +11,12 @@ use c_answers::{Block, ByteOutcome, Status};
 pub trait ByteReader {
     ghost reader: { Reader Self };
 
-    /// The most places of the buffer that a byte may need.
+    /// Returns the largest buffer size that a byte may need.
     fn most_written(&self) -> usize
         ensures { result ≡ reader.most self.now };
 
-    /// Takes one more byte, and writes what it completes to the front of the buffer. `Err` says why the byte
-    /// is refused; nothing is written then.
+    /// Takes one more byte, and writes what it completes to the front of the buffer. The error says why the
+    /// byte is refused; nothing is written then.
     fn take(&mut self, byte: u8, offset: u64, buffer: &mut [u8]) -> Result<ByteOutcome, Status>
         requires { reader.most self.old ≤ length buffer.old }
         ensures answer { Reads reader self.old byte offset buffer.old result buffer.new }
@@ -25,11 +25,11 @@ pub trait ByteReader {
 }
 
 /// Takes one more byte, and writes what it completes to the front of the buffer. The outcome has the number
-/// of places written, and the lines of the byte (own rules).
+/// of elements written and the lines of the byte (own rules).
 ///
-/// Returns `SmallBuffer` exactly if the buffer has fewer places than any byte may need; nothing is taken
-/// then, and `need` is the size that does. Returns `ExclusiveTooLong` at the byte that makes an exclusive
-/// longer than the limit, which is dropped.
+/// Returns `SmallBuffer` exactly if the buffer is smaller than any byte may need. Then nothing is taken, and
+/// `need` is a sufficient size. Returns `ExclusiveTooLong` at the byte that makes an exclusive longer than
+/// the limit. The exclusive is dropped.
 #[inline(always)]
 pub fn take_byte<R: ByteReader>(
     reader: &mut R,
@@ -58,8 +58,8 @@ pub fn take_byte<R: ByteReader>(
     }
 }
 
-// Writes an outcome to the front of these, if its byte wrote something or has a line, and returns the number
-// of outcomes written: 0 or 1.
+// Writes an outcome to the front of these, if something was written for its byte or the byte has a line.
+// Returns the number of outcomes written, 0 or 1.
 #[inline(always)]
 fn put_outcome(outcome: ByteOutcome, outcomes: &mut [ByteOutcome]) -> usize
     requires { 0 < length outcomes.old }
@@ -73,13 +73,13 @@ fn put_outcome(outcome: ByteOutcome, outcomes: &mut [ByteOutcome]) -> usize
     1
 }
 
-/// Takes bytes that follow one another, each as `take_byte` does. What they complete follows one another in
-/// the buffer, and each byte that completes something or has a line has an outcome. The offset is that of the
-/// first byte; each byte adds 1 to it, modulo 2^64. The block says how far the call came.
+/// Takes bytes that follow one another, each as `take_byte` does. Writes what they complete to the buffer,
+/// one after the other, and an outcome for each byte that completes something or has a line. The offset is
+/// the offset of the first byte; each byte adds 1 to it, modulo 2^64. `block` says how far the call came.
 ///
-/// Returns `Done` if all bytes are taken, and `SmallBuffer` before a byte for which no outcome is left, or
-/// for which the rest of the buffer has fewer places than any byte may need. `ExclusiveTooLong` ends the call
-/// after the byte that is refused, which has no outcome and counts as taken and as refused (own rules).
+/// Returns `Done` if all bytes are taken. Returns `SmallBuffer` before a byte for which no outcome is left,
+/// or for which the rest of the buffer is smaller than any byte may need. `ExclusiveTooLong` ends the call
+/// after the byte that is refused. That byte has no outcome, and counts as taken and as refused (own rules).
 pub fn take_bytes<R: ByteReader>(
     reader: &mut R,
     bytes: &[u8],

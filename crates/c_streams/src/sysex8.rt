@@ -20,36 +20,42 @@ use std::marker::Model;
 use sysex8_streams::{Fed8, Part8, Streams, read8};
 use ump_grammar::fields::bits;
 
-/// What a packet did to the 8-bit exclusive of its stream.
+/// The result of a packet for the 8-bit exclusive of its stream.
 #[repr(C)]
 #[derive(Clone, Copy)]
 pub struct JoinedPart {
-    /// The number of bytes written: those of the exclusive that it ends.
+    /// The number of bytes written: the bytes of the exclusive that the packet ends.
     pub written: usize,
-    /// After `SmallBuffer`, the size of a buffer that does. Otherwise 0.
+    /// After `SmallBuffer`, a sufficient buffer size. Otherwise 0.
     pub need: usize,
-    /// The offset at which the exclusive began that it cuts off; otherwise 0.
+    /// If the packet cuts an exclusive off, the offset at which that exclusive began. Otherwise 0.
     pub cut_at: u64,
-    /// 0: the packet has no part of an 8-bit exclusive. 1: its part is kept. 2: it ends an exclusive. 3: it
-    /// continues or ends one, and none is begun. 4: it begins one, and cuts one off. 5: it is all of one, and
-    /// cuts one off. 6: it begins one, but all slots are taken, so it is passed over. 7: the exclusive has
-    /// more bytes than the limit, and is dropped.
+    /// The answer for the packet:
+    /// - 0: it has no part of an 8-bit exclusive.
+    /// - 1: its part is stored.
+    /// - 2: it ends an exclusive.
+    /// - 3: it continues or ends an exclusive, but none is open.
+    /// - 4: it begins an exclusive, and cuts another off.
+    /// - 5: it is a whole exclusive, and cuts another off.
+    /// - 6: it begins an exclusive, but all slots are in use, so the exclusive is passed over.
+    /// - 7: its exclusive has more bytes than the limit, and is dropped.
     pub answer: u8,
     /// The group of the stream, 0 to 15; 0 if there is no part.
     pub group: u8,
-    /// Its stream id, 0 to 255; 0 if there is no part.
+    /// The stream id, 0 to 255; 0 if there is no part.
     pub stream: u8,
 }
 
 impl JoinedPart {
-    /// The value for a packet without a part.
+    /// Returns the value for a packet without a part.
     pub fn none() -> JoinedPart
         ensures { result ≡ no_part }
     {
         JoinedPart::needing(0)
     }
 
-    /// The value for a packet that wasn't taken, since the buffer was too small; one of this size does.
+    /// Returns the value for a packet that wasn't taken because the buffer was too small. `size` is a
+    /// sufficient buffer size.
     pub fn needing(size: usize) -> JoinedPart
         ensures { result ≡ needing_part size }
     {
@@ -64,13 +70,13 @@ impl JoinedPart {
     }
 }
 
-// A part that makes its exclusive longer than the limit.
+// An error: a part makes its exclusive longer than the limit.
 #[derive(Clone, Copy)]
 struct TooLong {
     joined: JoinedPart,
 }
 
-// The part of an 8-bit exclusive in a packet.
+// Returns the part of an 8-bit exclusive that a packet has.
 #[tactic(auto, using(crate::proofs::EndedLaws::spelled_short))]
 fn part_in(words: &Words) -> Option<Part8>
     requires { IsWhole words.now }
@@ -84,7 +90,7 @@ fn part_in(words: &Words) -> Option<Part8>
     }
 }
 
-// Writes the exclusive that a part ends, and returns its number of bytes.
+// Writes the exclusive that a part ends, and returns the number of its bytes.
 fn put_ended(fed: &Fed8<'_>, buffer: &mut [u8]) -> usize
     requires { length (ended_by (fed8_view fed.now)) ≤ length buffer.old }
     ensures count { result ≡ length (ended_by (fed8_view fed.now)) }
@@ -147,7 +153,7 @@ fn take_part(
     }
 }
 
-// Takes the part of a packet, if it has one.
+// Takes the part of a packet, if the packet has one.
 fn take(
     streams: &mut Streams,
     words: &Words,
@@ -209,7 +215,8 @@ fn take_all(
     Status::Done
 }
 
-/// The exclusives that streams have begun, with their limit. A contract sees what each slot holds.
+/// The exclusives that streams have open, and their limit. In contracts its value is the contents of each
+/// slot.
 #[derive(Drop)]
 pub struct CSysex8 {
     streams: Streams,
@@ -228,8 +235,9 @@ impl Model for CSysex8 {
 }
 
 impl CSysex8 {
-    /// Makes a join of this many slots, 1 to 64, all idle, each for an exclusive of `room` bytes, 13 to
-    /// 1,048,576 (own rules). Takes all memory that it ever needs; `NoMemory` if there isn't that much.
+    /// Creates a join with this many slots, 1 to 64, which are all free, each for an exclusive of `room`
+    /// bytes, 13 to 1,048,576 (own rules). Allocates all the memory that the join will ever need. Returns
+    /// `NoMemory` if there isn't enough.
     pub fn new(alloc: Global, slots: u8, room: u32) -> Result<CSysex8, NoMemory>
         requires some { 1 ≤ slots }
         requires few { slots ≤ 64 }
@@ -244,10 +252,11 @@ impl CSysex8 {
     /// Takes one packet (M2-104-UM, system exclusive 8-bit messages), and writes the exclusive that it ends
     /// to the front of the buffer. A packet that has no part of an 8-bit exclusive changes nothing.
     ///
-    /// Returns `SmallBuffer` exactly if the buffer has fewer bytes than the limit of an exclusive, and `need`
-    /// is then that size; otherwise `BadWordCount` if the words aren't those of one packet. Nothing is taken
-    /// in either case. Returns `ExclusiveTooLong` at the part that makes an exclusive longer than the limit,
-    /// which is dropped; `joined` then still has the answer, the group and the stream (own rules).
+    /// Returns `SmallBuffer` exactly if the buffer has fewer bytes than the limit of an exclusive; `need` is
+    /// then that limit. Otherwise, returns `BadWordCount` if the words aren't those of one packet. In both
+    /// cases nothing is taken. Returns `ExclusiveTooLong` at the part that makes an exclusive longer than the
+    /// limit. The exclusive is dropped, and `joined` still has the answer, the group and the stream (own
+    /// rules).
     pub fn packet(
         &mut self,
         words: &[u32],
@@ -279,14 +288,15 @@ impl CSysex8 {
         }
     }
 
-    /// Takes packets whose words follow one another, each as `packet` does. The exclusives that they end
-    /// follow one another in the buffer, and `parts` has one for each packet. The offset is that of the first
-    /// packet; each word adds 4 to it, modulo 2^64. The block says how far the call came.
+    /// Takes packets whose words follow one another, each as `packet` does. Writes the exclusives that they
+    /// end to the buffer, one after the other, and an element of `parts` for each packet. The offset is the
+    /// offset of the first packet; each word adds 4 to it, modulo 2^64. `block` says how far the call came.
     ///
-    /// Returns `Done` if all words are taken; `SmallBuffer` before a packet for which no part is left, or for
-    /// which the rest of the buffer has fewer bytes than the limit of an exclusive; `BadWordCount` before a
-    /// last packet whose words aren't all there. `ExclusiveTooLong` ends the call after the packet that is
-    /// refused, which has no part and counts as taken and as refused (own rules).
+    /// Returns `Done` if all words are taken. Returns `SmallBuffer` before a packet for which no element of
+    /// `parts` is left, or for which the rest of the buffer has fewer bytes than the limit of an exclusive.
+    /// Returns `BadWordCount` before a last packet whose words are incomplete. `ExclusiveTooLong` ends the
+    /// call after the packet that is refused. That packet has no element of `parts`, and counts as taken and
+    /// as refused (own rules).
     pub fn packets(
         &mut self,
         words: &[u32],
@@ -302,16 +312,16 @@ impl CSysex8 {
         take_all(&mut self.streams, most, words, offset, buffer, parts, block)
     }
 
-    /// Makes the join as `new` makes it with the same arguments: all slots are idle (own rule). Takes no
-    /// memory.
+    /// Returns the join to the state in which `new` creates it with the same arguments: all slots are free
+    /// (own rule). The call doesn't allocate.
     pub fn reset(&mut self)
         ensures { self.new ≡ empty_table8 (length self.old.slots) self.old.room }
     {
         self.streams.reset();
     }
 
-    /// Writes the offset of the packet that began the exclusive of a stream. Returns `BadGroup` if the group
-    /// is above 15, and `Nothing` if the stream has none begun; nothing is written then.
+    /// Writes the offset of the packet with which a stream's open exclusive began. Returns `BadGroup` if the
+    /// group is above 15, and `Nothing` if the stream has no open exclusive; nothing is written then.
     pub fn begun(&self, group: u8, stream: u8, offset: &mut u64) -> Status
         ensures { IsBegun self.now group stream (number_of result) offset.old offset.new }
     {

@@ -19,29 +19,30 @@ use std::marker::Model;
 use usb_midi1::laws::exclusive_events_come_in_order;
 use usb_midi1::{EachEvent, Packed, Packer, carried, exclusive_event, is_reserved};
 
-/// Returns the size, in bytes, of a buffer that takes the events of any message, if exclusives have at most
-/// `room` bytes between F0 and F7: four bytes for each three of an exclusive with its F0 and F7 (own rule).
+/// Returns the size, in bytes, of a buffer that holds the events of any message, if exclusives have at most
+/// `room` bytes between F0 and F7. An exclusive needs four bytes for each three of its bytes, including F0
+/// and F7 (own rule).
 pub fn usb_size(room: u32) -> usize
     ensures { result ≡ longest_events room }
 {
     4 * ((room as usize + 4) / 3)
 }
 
-/// What an event carries.
+/// The bytes that an event carries.
 #[repr(C)]
 #[derive(Clone, Copy)]
 pub struct CarriedBytes {
-    /// The number of its cable, 0 to 15.
+    /// The cable number, 0 to 15.
     pub cable: u8,
-    /// How many of its three bytes it carries, 1 to 3.
+    /// How many of the event's three bytes are carried, 1 to 3.
     pub length: u8,
-    /// Its three bytes, also those that it doesn't carry.
+    /// The event's three bytes, including those that aren't carried.
     pub bytes: [u8; 3],
 }
 
 /// Writes the cable of an event of four bytes, its last three bytes, and how many of them it carries (USB
 /// Device Class Definition for MIDI Devices 1.0, event packets). Returns `BadSize` if there are more or fewer
-/// than four bytes, and otherwise `Nothing` if the code is reserved; nothing is written then.
+/// than four bytes. Otherwise, returns `Nothing` if the code is reserved. In both cases nothing is written.
 pub fn split_event(event: &[u8], split: &mut CarriedBytes) -> Status
     ensures { IsCarried event.now (number_of result) split.old split.new }
 {
@@ -60,7 +61,8 @@ pub fn split_event(event: &[u8], split: &mut CarriedBytes) -> Status
     Status::Done
 }
 
-// Writes the events of an exclusive, from its F0 to its F7, and returns their number of bytes.
+// Writes the events of an exclusive, which is given from its F0 to its F7, and returns the number of their
+// bytes.
 fn put_exclusive(cable: U4, whole: &[u8], buffer: &mut [u8]) -> usize
     requires both_ends { 2 ≤ length whole.now }
     requires fits { length (concat (exclusive_events cable whole.now)) ≤ length buffer.old }
@@ -76,7 +78,7 @@ fn put_exclusive(cable: U4, whole: &[u8], buffer: &mut [u8]) -> usize
     4 * k
 }
 
-// Writes the events, and returns their number of bytes.
+// Writes the events of a byte, and returns the number of their bytes.
 fn put_events(packed: Packed<'_>, buffer: &mut [u8]) -> usize
     requires apart { IsApart packed }
     requires both_ends { IfSome (whole_in packed) (λ whole. 2 ≤ length whole) }
@@ -93,8 +95,8 @@ fn put_events(packed: Packed<'_>, buffer: &mut [u8]) -> usize
     }
 }
 
-/// A packer of the bytes of one MIDI 1.0 stream into events of one cable that knows its limit. A contract
-/// sees the state of the packer.
+/// A packer of the bytes of one MIDI 1.0 stream into events of one cable, with its limit. In contracts its
+/// value is the state of the packer.
 #[derive(Drop)]
 pub struct CUsb {
     packer: Packer,
@@ -115,8 +117,9 @@ impl Model for CUsb {
 }
 
 impl CUsb {
-    /// Makes a packer into events of a cable, for exclusives of `room` bytes between F0 and F7, 6 to
-    /// 1,048,576 (own rule). Takes all memory that it ever needs; `NoMemory` if there isn't that much.
+    /// Creates a packer into events of this cable, for exclusives of `room` bytes between F0 and F7, 6 to
+    /// 1,048,576 (own rule). Allocates all the memory that the packer will ever need. Returns `NoMemory` if
+    /// there isn't enough.
     pub fn new(alloc: Global, cable: U4, room: u32) -> Result<CUsb, NoMemory>
         requires least { 6 ≤ room }
         requires most { room ≤ 1048576 }
@@ -127,8 +130,8 @@ impl CUsb {
     }
 
     /// Takes one more byte (USB Device Class Definition for MIDI Devices 1.0, code index numbers), as
-    /// `take_byte` does. A message is written as its events, four bytes each; those of an exclusive all at
-    /// once. Any byte may need as many places as the events of the longest exclusive (`usb_size`).
+    /// `take_byte` does. Writes a message as its events, four bytes each, and those of an exclusive all at
+    /// once. Any byte may need a buffer for the events of the longest exclusive (`usb_size`).
     pub fn byte(
         &mut self,
         byte: u8,
@@ -157,15 +160,15 @@ impl CUsb {
         take_bytes(self, bytes, offset, buffer, outcomes, block)
     }
 
-    /// Makes the packer as `new` makes it with the same arguments: nothing is open, and there is no running
-    /// status (own rule). Takes no memory.
+    /// Returns the packer to the state in which `new` creates it with the same arguments: nothing is open,
+    /// and there is no running status (own rule). The call doesn't allocate.
     pub fn reset(&mut self)
         ensures { self.new ≡ record { cable = self.old.cable; parsing = idle self.old.parsing.room } }
     {
         self.packer.reset();
     }
 
-    /// Writes the line of the message or exclusive that is open, with the offset of its first byte. Returns
+    /// Writes the line for the message or exclusive that is open, with the offset of its first byte. Returns
     /// `Nothing`, and writes no line, exactly if nothing is open.
     pub fn end(&self, line: &mut ListingLine) -> Status
         ensures { IsEnd (open_of self.now.parsing) (number_of result) line.old line.new }

@@ -1,4 +1,4 @@
-// The translator down, into the caller's buffer.
+// The translator down, which writes to the caller's buffer.
 ghost use Rattle.std.specs.Prelude.{◌≡◌, ◌≤◌, ◌<◌, ℕ, List, length, slice_index, take, true, false, None, IfErr, IfOk, IfSome, IsTrue};
 ghost use Rattle.packet_words.specs.Words.{words_asked};
 ghost use Rattle.ump_grammar.specs.Ranges.{IsPacket};
@@ -20,11 +20,11 @@ use small_types::{NoMemory, U4};
 use std::alloc::Global;
 use std::marker::Model;
 
-/// The size, in bytes, of a buffer that takes any piece except that of an exclusive.
+/// The size, in bytes, of a buffer that holds any piece except that of an exclusive.
 const LEAST_SIZE: usize = 12;
 
-// The packet of the first two words, if there are two and `EncodedPacket::of_two` knows it by them. It knows
-// most packets, so that what comes next rests on no table of lengths.
+// Returns the packet of the first two words, if there are two and `EncodedPacket::of_two` recognizes the
+// packet. It recognizes most packets, so that the code that follows needs no table of lengths.
 #[inline(always)]
 fn pair_in(words: &[u32]) -> Option<EncodedPacket>
     ensures packet { IfSome result (λ packet. Reads (take 2 words.now) packet) }
@@ -38,7 +38,7 @@ fn pair_in(words: &[u32]) -> Option<EncodedPacket>
     Some(packet)
 }
 
-// The packet that the words encode, or the reason why no packet has them.
+// Returns the packet that the words encode, or the reason why no packet has them.
 #[inline(always)]
 fn read(words: &[u32], offset: u64) -> Result<EncodedPacket, Status>
     ensures { IsRead words.now result }
@@ -52,8 +52,8 @@ fn read(words: &[u32], offset: u64) -> Result<EncodedPacket, Status>
     }
 }
 
-// Copies a message to the front of the buffer, and returns its number of bytes. Most packets of an exclusive
-// have none.
+// Copies a message to the front of the buffer, and returns the number of bytes. Most packets of an exclusive
+// have no message.
 #[tactic(auto, using(crate::proofs::DownLaws::nothing_put))]
 #[inline(always)]
 fn put(message: &[u8], buffer: &mut [u8]) -> usize
@@ -67,7 +67,7 @@ fn put(message: &[u8], buffer: &mut [u8]) -> usize
     put_bytes(message, buffer)
 }
 
-// Writes a message in a lane, and returns its piece, with its line.
+// Writes a message for a lane, and returns its piece, with the line.
 #[inline(always)]
 fn write(message: &[u8], lane: U4, listed: Option<Listed>, buffer: &mut [u8]) -> Piece
     requires { length message.now ≤ length buffer.old }
@@ -78,7 +78,7 @@ fn write(message: &[u8], lane: U4, listed: Option<Listed>, buffer: &mut [u8]) ->
     Piece::of(count, lane, listed)
 }
 
-// Shows the line of an attribute that is left out. Few messages have one.
+// Adds the line for an attribute that is left out to a piece. Few messages have one.
 #[inline(never)]
 fn show_attribute(offset: u64, lane: U4, piece: &mut Piece)
     requires { piece.old ≡ piece_shown piece.old.written lane None }
@@ -92,7 +92,7 @@ fn show_attribute(offset: u64, lane: U4, piece: &mut Piece)
     *piece = Piece::of(piece.written, lane, Some(listed));
 }
 
-// Writes a message in a lane, and its piece, with the line of an attribute that is left out.
+// Writes a message for a lane, and its piece, with the line for an attribute that is left out.
 #[inline(always)]
 fn write_message(
     message: &[u8],
@@ -199,7 +199,7 @@ fn carry(
     }
 }
 
-// Takes the packet that the words encode, whatever it is, and writes its piece.
+// Takes the packet that the words encode, of whatever kind, and writes its piece.
 #[inline(never)]
 fn take_any(
     down: &mut Down,
@@ -222,8 +222,8 @@ fn take_any(
     }
 }
 
-// Takes a packet if one message alone carries it, or if it only adds six bytes to an exclusive, and writes
-// its piece. Most packets are so. Otherwise nothing changes.
+// Takes a packet if a single message carries it, or if it only adds six bytes to an exclusive, and writes its
+// piece. Most packets are of these kinds. For any other packet, nothing changes.
 #[inline(always)]
 fn take_simple(
     down: &mut Down,
@@ -253,7 +253,7 @@ fn take_simple(
     false
 }
 
-// Takes the packet of the two words at the front of these, if it is simple. Otherwise nothing changes.
+// Takes the packet of the first two of these words, if it is simple. Otherwise nothing changes.
 #[inline(always)]
 fn take_pair(
     down: &mut Down,
@@ -296,8 +296,9 @@ fn take_one(
     take_any(down, words, offset, buffer, piece)
 }
 
-// Takes the packet at the front of the words, writes its piece, and returns how many words it has. If it
-// isn't taken, it returns why, and how many words are refused with it: none if they aren't all there.
+// Takes the packet at the front of the words, writes its piece, and returns the number of its words. If the
+// packet isn't taken, returns the reason and the number of words that are refused with it, which is 0 if some
+// of its words are missing.
 #[inline(always)]
 fn take_front(
     down: &mut Down,
@@ -325,7 +326,7 @@ fn take_front(
     }
 }
 
-// Takes the packets whose words follow one another. Any piece has at most `most_written` bytes.
+// Takes packets whose words follow one another. Any piece has at most `most_written` bytes.
 #[inline(always)]
 fn take_all(
     down: &mut Down,
@@ -364,7 +365,7 @@ fn take_all(
     Status::Done
 }
 
-/// Returns the size, in bytes, of a buffer that takes the piece of any packet, if the limit of an exclusive
+/// Returns the size, in bytes, of a buffer that holds the piece of any packet, if the limit of an exclusive
 /// is `room`: two more than the limit, and at least 12 (own rule). `room` may be any number.
 pub fn down_size(room: u32) -> usize
     ensures { result ≡ most_bytes_of room }
@@ -372,8 +373,8 @@ pub fn down_size(room: u32) -> usize
     (room as usize + 2).max(LEAST_SIZE)
 }
 
-/// A translator down that knows the size of a buffer which takes the piece of any packet. A contract sees the
-/// state of the translator.
+/// A translator down that knows the size of a buffer which holds the piece of any packet. In contracts its
+/// value is the state of the translator.
 #[derive(Drop)]
 pub struct CDown {
     down: Down,
@@ -393,9 +394,9 @@ impl Model for CDown {
 }
 
 impl CDown {
-    /// Makes a translator in which nothing is open. Takes all memory that it ever needs: for exclusives of
-    /// `room` bytes between F0 and F7 in each group, 6 to 1,048,576 (own rule). `NoMemory` if there isn't
-    /// that much.
+    /// Creates a translator that has nothing open. Allocates all the memory that it will ever need, for
+    /// exclusives of `room` bytes between F0 and F7 in each group, 6 to 1,048,576 (own rule). Returns
+    /// `NoMemory` if there isn't enough.
     pub fn new(alloc: Global, room: u32, style: Style, is_paired: bool) -> Result<CDown, NoMemory>
         requires least { 6 ≤ room }
         requires most { room ≤ 1048576 }
@@ -408,23 +409,27 @@ impl CDown {
         })
     }
 
-    /// Makes the translator as `new` makes it with the same arguments: nothing is open, and in compact style
-    /// nothing is known of a receiver (own rule). Takes no memory.
+    /// Returns the translator to the state in which `new` creates it with the same arguments: nothing is
+    /// open, and in compact style nothing is known of a receiver (own rule). The call doesn't allocate.
     pub fn reset(&mut self)
         ensures { self.new ≡ new_down (paired_of self.old) (style_of self.old) (limit_of self.old) }
     {
         self.down.reset();
     }
 
-    /// Takes the packet that the words encode. Writes its MIDI 1.0 bytes to the front of the buffer, and
-    /// their number, their lane and the packet's line to `piece` (M2-104-UM, default translation).
+    /// Takes the packet that the words encode (M2-104-UM, default translation). Writes its MIDI 1.0 bytes to
+    /// the front of the buffer. Writes the number of bytes, their lane and the packet's line to `piece`.
     ///
-    /// Returns the first that applies of these, and then writes nothing to the buffer: `SmallBuffer` if the
-    /// buffer has fewer places than any piece may need (`down_size`); `BadWordCount` if the number of words
-    /// isn't that of the first one's message type; `BadCount` if they are of a 7-bit exclusive and count more
-    /// than six bytes; `HighBit` if a byte that carries seven bits is 128 or more; `DataIncrement` or
-    /// `DataDecrement` for a control change 96 or 97; `ExclusiveTooLong` if an exclusive exceeds the limit.
-    /// The last one leaves the group with nothing open; otherwise the translator is unchanged (own rules).
+    /// Returns the first of these that applies, and then writes nothing to the buffer (own rules):
+    /// - `SmallBuffer` if the buffer is smaller than any piece may need (`down_size`);
+    /// - `BadWordCount` if the number of words isn't the number that the first word's message type has;
+    /// - `BadCount` if the packet is of a 7-bit exclusive and has a count above six bytes;
+    /// - `HighBit` if a byte that carries seven bits is 128 or more;
+    /// - `DataIncrement` or `DataDecrement` for a control change 96 or 97;
+    /// - `ExclusiveTooLong` if an exclusive exceeds the limit.
+    ///
+    /// After `ExclusiveTooLong` the group has nothing open; after the other failures the translator is
+    /// unchanged.
     #[tactic(auto, using(crate::proofs::DownLaws::taken_keeps))]
     #[inline(always)]
     pub fn packet(
@@ -450,14 +455,14 @@ impl CDown {
         }
     }
 
-    /// Takes packets whose words follow one another, each as `packet` does. Their bytes follow one another in
-    /// the buffer, and their pieces in `pieces`. The offset is that of the first; each word adds 4 to it,
-    /// modulo 2^64. The block says how far the call came.
+    /// Takes packets whose words follow one another, each as `packet` does. Writes their bytes one after the
+    /// other to the buffer, and their pieces to `pieces`. The offset is the offset of the first packet; each
+    /// word adds 4 to it, modulo 2^64. `block` says how far the call came.
     ///
-    /// Returns `Done` exactly if all words are taken; `SmallBuffer` exactly before the first packet for which
-    /// no piece is left, or for which the rest of the buffer has fewer places than any piece may need;
-    /// `BadWordCount` before a last packet whose words aren't all there. A packet that is refused ends the
-    /// call with its status, has no piece, and its words count as taken and as refused (own rules).
+    /// Returns `Done` exactly if all words are taken. Returns `SmallBuffer` exactly before the first packet
+    /// for which no piece is left, or for which the rest of the buffer is smaller than any piece may need.
+    /// Returns `BadWordCount` before a last packet whose words are incomplete. A packet that is refused ends
+    /// the call with its status. It has no piece, and its words count as taken and as refused (own rules).
     pub fn packets(
         &mut self,
         words: &[u32],
@@ -483,8 +488,8 @@ impl CDown {
         status
     }
 
-    /// Writes the offset of the packet that began the exclusive that a group has open. Returns `BadGroup` if
-    /// the group isn't 0 to 15, and `Nothing` if it has none open; the offset is then unchanged.
+    /// Writes the offset of the packet with which the group's open exclusive began. Returns `BadGroup` if the
+    /// group isn't 0 to 15, and `Nothing` if it has no open exclusive; the offset is then unchanged.
     pub fn begun(&self, group: u8, offset: &mut u64) -> Status
         ensures { HasBegun self.now group offset.old (number_of result) offset.new }
     {

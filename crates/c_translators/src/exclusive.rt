@@ -1,4 +1,4 @@
-// The packets of an exclusive.
+// Writes the packets of an exclusive.
 ghost use Rattle.std.specs.Prelude.{◌≡◌, ◌≤◌, false, length};
 ghost use Rattle.sysex_groups.specs.Cut.{part_at};
 ghost use Rattle.ump_grammar.specs.Ranges.{IsPacket};
@@ -14,15 +14,15 @@ use sysex_groups::part;
 use ump_grammar::{Packet, encode};
 use voice_messages::Form;
 
-// Whether a byte of these is 128 or more.
+// Returns whether one of these bytes is 128 or more.
 fn has_high(bytes: &[u8]) -> bool
     ensures { result ≡ has_high bytes.now }
 {
     bytes.iter().any(|byte| *byte >= 128)
 }
 
-// Whether a byte is refused before packet `index`, which has these bytes: before the first one any of the
-// payload, so that no part is sent of an exclusive that has such a byte.
+// Returns whether a byte is refused before packet `index`, whose bytes are `own`. Before the first packet,
+// any byte of the payload may be refused, so that no part of an exclusive with such a byte is sent.
 #[tactic(auto, using(crate::proofs::ExclusiveLaws::allowed))]
 fn is_refused(index: usize, payload: &[u8], own: &[u8]) -> bool
     ensures refused { result ≡ is_refused index payload.now own.now }
@@ -42,7 +42,8 @@ pub fn exclusive_words(group: U4, form: Form, bytes: ShortList<u8, 6>) -> [u32; 
     [words[0], words[1]]
 }
 
-// Writes the words of packet `index` of an exclusive with these bytes between F0 and F7, if there is one.
+// Writes the words of packet `index` of an exclusive with these bytes between F0 and F7, if there is such a
+// packet.
 fn put_part(group: U4, payload: &[u8], index: usize, words: &mut [u32]) -> Status
     requires { 2 ≤ length words.old }
     ensures { cuts (part_at payload.now index) group payload.now index
@@ -58,12 +59,12 @@ fn put_part(group: U4, payload: &[u8], index: usize, words: &mut [u32]) -> Statu
     Status::Done
 }
 
-/// Writes the two words of a packet, counted from 0, of an exclusive with these bytes between F0 and F7
+/// Writes the two words of packet `index`, counted from 0, of an exclusive with these bytes between F0 and F7
 /// (M2-104-UM, system exclusive 7-bit messages) to the front of the buffer.
 ///
-/// Returns the first that applies of `SmallBuffer` if the buffer has fewer than two places; `BadGroup` if the
-/// group isn't 0 to 15; `Nothing` if the exclusive has no such packet; and `HighBit` if a byte of the packet,
-/// or with index 0 any byte of the exclusive, is 128 or more. Nothing is written then.
+/// Returns the first of these that applies, and then writes nothing: `SmallBuffer` if the buffer has fewer
+/// than two words; `BadGroup` if the group isn't 0 to 15; `Nothing` if the exclusive has no such packet; and
+/// `HighBit` if a byte of the packet, or with index 0 any byte of the exclusive, is 128 or more.
 pub fn exclusive_packet(group: u8, payload: &[u8], index: usize, words: &mut [u32]) -> Status
     ensures { IsCut group payload.now index words.old (number_of result) words.new }
 {

@@ -1,5 +1,8 @@
-//! The translators for a caller that holds buffers of its own: what
-//! may not fit is refused before anything is taken.
+//! Runs the translators for a caller that has its own buffers. If a buffer may be too small for a packet or
+//! byte, the call refuses it before it takes anything.
+//!
+//! Start with [`CDown`] or [`CUp`]. `packet` and `byte` take one item; `packets` and `bytes` take many.
+//! [`down_size`] and [`up_size`] say how large a buffer has to be.
 #![tactic(auto)]
 
 pub mod down;

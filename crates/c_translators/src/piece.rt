@@ -1,4 +1,4 @@
-// What a packet that goes down becomes, as a caller gets it.
+// The result of a packet that is translated down, in the form in which a caller gets it.
 ghost use Rattle.std.specs.Prelude.{◌≡◌};
 ghost use Rattle.c_translators.specs.Pieces.{needing, no_piece, piece_shown};
 
@@ -6,26 +6,26 @@ use c_answers::kind_number;
 use midi_meaning::Listed;
 use small_types::U4;
 
-/// The MIDI 1.0 bytes of a packet, and its line of the listing.
+/// The result of a packet: the number of its MIDI 1.0 bytes and their lane, and its line of the listing.
 #[repr(C)]
 #[derive(Clone, Copy)]
 pub struct Piece {
     /// The number of bytes written.
     pub written: usize,
-    /// After `SmallBuffer`, the size of a buffer that does. Otherwise 0.
+    /// After `SmallBuffer`, a sufficient buffer size. Otherwise 0.
     pub need: usize,
-    /// The offset of the line, as the caller numbered it; 0 if there is none.
+    /// The offset of the line, as the caller numbered it; 0 if there is no line.
     pub offset: u64,
     /// The lane of the bytes, 0 to 15; 0 if there are none.
     pub lane: u8,
-    /// The number of the kind of the line; 0 if there is no line.
+    /// The number of the line's kind; 0 if there is no line.
     pub kind: u8,
-    /// The group of the line; 255 if it has none.
+    /// The group of the line; 255 if the line has none.
     pub group: u8,
 }
 
 impl Piece {
-    /// The piece of a packet without bytes and without a line.
+    /// Returns the piece of a packet without bytes and without a line.
     #[inline(always)]
     pub fn none() -> Piece
         ensures { result ≡ no_piece }
@@ -33,7 +33,8 @@ impl Piece {
         Piece::needing(0)
     }
 
-    /// The piece of a packet that wasn't taken, since the buffer was too small; one of this size does.
+    /// Returns the piece of a packet that wasn't taken because the buffer was too small. `size` is a
+    /// sufficient buffer size.
     #[inline(always)]
     pub fn needing(size: usize) -> Piece
         ensures { result ≡ needing size }
@@ -48,7 +49,7 @@ impl Piece {
         }
     }
 
-    /// The piece of a packet, by the number of bytes written, their lane and its line.
+    /// Returns the piece of a packet, with the number of bytes written, their lane and the line.
     #[inline(always)]
     pub fn of(written: usize, lane: U4, listed: Option<Listed>) -> Piece
         ensures { result ≡ piece_shown written lane listed }

@@ -1,4 +1,4 @@
-// The translator up, into the caller's buffer.
+// The translator up, which writes to the caller's buffer.
 ghost use Rattle.std.specs.Prelude.{◌≡◌, ◌≤◌, ◌<◌, ◌+◌, ◌*◌, ◌^◌, length, false, IfOk, IfSome};
 ghost use Rattle.midi1_bytes.specs.Messages.{AreData};
 ghost use Rattle.midi1_bytes.specs.Parsing.{idle};
@@ -39,13 +39,13 @@ use std::marker::Model;
 use sysex_groups::part;
 use up_translator::{BadStep, DirectStep, Listed, Raised, RaisedPacket, Up};
 
-/// The size, in words, of a buffer that takes any packet.
+/// The size, in words, of a buffer that holds any single packet.
 const LEAST_SIZE: usize = 4;
 
 /// The most bytes of an exclusive that a packet carries.
 const PACKET_BYTES: usize = 6;
 
-// Writes two words, one by one, so that they don't go through memory, and returns 2.
+// Writes two words one by one, so that they don't go through memory, and returns 2.
 #[inline(always)]
 fn put_pair(pair: [u32; 2], words: &mut [u32]) -> usize
     requires { 2 ≤ length words.old }
@@ -113,7 +113,7 @@ fn put_packets(raised: &Raised<'_>, words: &mut [u32]) -> usize
     }
 }
 
-// Shows a line, if there is one.
+// Writes a line to `line`, if there is one.
 #[inline(always)]
 fn show_line(listed: Option<Listed>, line: &mut ListingLine)
     requires { line.old ≡ no_line }
@@ -125,8 +125,8 @@ fn show_line(listed: Option<Listed>, line: &mut ListingLine)
     }
 }
 
-// Writes the words of the packets of a byte, and their number and its lines to the outcome. Most bytes have
-// none of these.
+// Writes the words of a byte's packets. Writes the number of words and the byte's lines to the outcome. Most
+// bytes have neither packets nor lines.
 #[tactic(auto, using(crate::proofs::UpLaws::shows_alone))]
 #[inline(always)]
 fn show(raised: &Raised<'_>, offset: u64, words: &mut [u32], outcome: &mut ByteOutcome)
@@ -169,8 +169,8 @@ fn take(
     }
 }
 
-// Takes one more byte, and writes its outcome, if nothing is raised of it or a direct message alone.
-// Otherwise the outcome says nothing. It is written first, while little else is kept.
+// Takes one more byte, and writes its outcome, if the byte completes no packet or a direct message alone.
+// Otherwise the outcome has no meaning. It is written first, while few other values are in use.
 #[inline(always)]
 fn take_direct(
     up: &mut Up,
@@ -195,7 +195,7 @@ fn take_direct(
     }
 }
 
-// The number of bytes taken at once, and of words and outcomes written for them.
+// The number of bytes taken at once, and the numbers of words and outcomes written for them.
 #[derive(Clone, Copy)]
 pub(crate) struct Run {
     count: usize,
@@ -203,8 +203,8 @@ pub(crate) struct Run {
     items: usize,
 }
 
-// Takes bytes at the front of these at once, if nothing is raised of them, or one direct message of the last
-// one.
+// Takes bytes at the front of these at once, if they complete no packet, or if only the last one completes a
+// direct message.
 #[inline(always)]
 fn take_run(
     up: &mut Up,
@@ -239,7 +239,7 @@ fn take_run(
     }
 }
 
-// Writes the item of a byte, if it has one, and returns their number: 0 or 1.
+// Writes the outcome of a byte, if it has one, and returns the number of outcomes written, 0 or 1.
 #[inline(always)]
 fn put_item(outcome: ByteOutcome, outcomes: &mut [ByteOutcome]) -> usize
     requires { 0 < length outcomes.old }
@@ -283,7 +283,7 @@ fn take_first(
     }
 }
 
-// Takes bytes at the front of these, several at once if it can.
+// Takes bytes at the front of these, several at once where it can.
 #[inline(always)]
 fn take_front(
     up: &mut Up,
@@ -329,7 +329,7 @@ fn take_all(
 {
     exclusives_stay_within_their_limit();
     *block = Block::nothing();
-    // If the offsets begin again at 0, bytes are taken one by one.
+    // If the offsets wrap around to 0, bytes are taken one by one.
     let has_wrap = offset.checked_add(bytes.len() as u64).is_none();
     let mut next = offset;
     while block.taken < bytes.len() {
@@ -357,16 +357,17 @@ fn take_all(
     Status::Done
 }
 
-/// Returns the size, in words, of a buffer that takes what any byte completes, if the limit of an exclusive
-/// is `room`: two for each packet of such an exclusive, and at least 4 (own rule). `room` may be any number.
+/// Returns the size, in words, of a buffer that holds the packets that any byte completes, if the limit of an
+/// exclusive is `room`: two words for each packet of such an exclusive, and at least 4 (own rule). `room` may
+/// be any number.
 pub fn up_size(room: u32) -> usize
     ensures { result ≡ most_words_of room }
 {
     ((room as usize).div_ceil(PACKET_BYTES) * 2).max(LEAST_SIZE)
 }
 
-/// A translator up that knows the size of a buffer which takes the words of any byte. A contract sees the
-/// state of the translator.
+/// A translator up that knows the size of a buffer which holds the words of any byte. In contracts its value
+/// is the state of the translator.
 #[derive(Drop)]
 pub struct CUp {
     up: Up,
@@ -386,9 +387,9 @@ impl Model for CUp {
 }
 
 impl CUp {
-    /// Makes a translator into a group, for a stream that has had no byte yet. Takes all memory that it ever
-    /// needs: for exclusives of `room` bytes between F0 and F7, 6 to 1,048,576 (own rule), and for the MSBs
-    /// of parameters. `NoMemory` if there isn't that much.
+    /// Creates a translator that writes packets of this group, for a stream that has had no byte yet.
+    /// Allocates all the memory that it will ever need, for exclusives of `room` bytes between F0 and F7, 6
+    /// to 1,048,576 (own rule), and for the MSBs of parameters. Returns `NoMemory` if there isn't enough.
     pub fn new(alloc: Global, group: U4, room: u32, is_paired: bool) -> Result<CUp, NoMemory>
         requires least { 6 ≤ room }
         requires most { room ≤ 1048576 }
@@ -402,8 +403,8 @@ impl CUp {
         })
     }
 
-    /// Makes the translator as `new` makes it with the same arguments, for a stream that has had no byte yet
-    /// (own rule). Takes no memory.
+    /// Returns the translator to the state in which `new` creates it with the same arguments, for a stream
+    /// that has had no byte yet (own rule). The call doesn't allocate.
     pub fn reset(&mut self)
         ensures { self.new ≡ record {
           group = self.old.group;
@@ -414,13 +415,19 @@ impl CUp {
         self.up.reset();
     }
 
-    /// Takes one more byte (M2-104-UM, translation from MIDI 1.0; M2-115-U). Writes the words of its packets
-    /// to the front of the buffer, those of an exclusive all at once, and its lines to `outcome`.
+    /// Takes one more byte (M2-104-UM, translation from MIDI 1.0; M2-115-U). Writes the words of the byte's
+    /// packets to the front of the buffer, those of an exclusive all at once. Writes the byte's lines to
+    /// `outcome`.
     ///
-    /// Returns `SmallBuffer`, and takes nothing, exactly if the buffer has fewer places than any byte may
-    /// need (`up_size`); `DataIncrement` or `DataDecrement` at the byte that completes a control change 96 or
-    /// 97, which sets nothing; `ExclusiveTooLong` at the byte that makes an exclusive longer than the limit,
-    /// which is dropped (own rules). Nothing is written to the buffer then.
+    /// Returns (own rules)
+    /// - `SmallBuffer`, and takes nothing, exactly if the buffer is smaller than any byte may need
+    ///   (`up_size`);
+    /// - `DataIncrement` or `DataDecrement` at the byte that completes a control change 96 or 97, which sets
+    ///   nothing;
+    /// - `ExclusiveTooLong` at the byte that makes an exclusive longer than the limit; the exclusive is
+    ///   dropped.
+    ///
+    /// In these cases nothing is written to the buffer.
     #[tactic(auto, using(crate::proofs::UpLaws::refused))]
     #[inline(always)]
     pub fn byte(
@@ -444,10 +451,10 @@ impl CUp {
         }
     }
 
-    /// Takes one more byte as `byte` does, with `Done`, if the buffer is large enough and the byte is only
-    /// kept or completes a message that is raised alone. Returns `false` exactly otherwise: then nothing is
-    /// taken, nothing is written except the outcome, which may hold anything, and the caller has to call
-    /// `byte`. Most bytes of a performance are taken, in less time than by `byte`.
+    /// Takes one more byte as `byte` does with `Done`, if the buffer is large enough and the byte is only
+    /// stored or completes a message that is translated up alone. Returns `false` exactly otherwise. Then
+    /// nothing is taken and nothing is written, except that the outcome may have any contents, and the caller
+    /// has to call `byte`. Most bytes of a performance are taken, in less time than by `byte`.
     #[inline(always)]
     pub fn direct(
         &mut self,
@@ -466,13 +473,13 @@ impl CUp {
         take_direct(&mut self.up, byte, offset, words, outcome)
     }
 
-    /// Takes bytes that follow one another, each as `byte` does. Their words follow one another in the
-    /// buffer, and each byte that completes a packet or has a line has an outcome. The offset is that of the
-    /// first byte; each byte adds 1 to it, modulo 2^64. The block says how far the call came.
+    /// Takes bytes that follow one another, each as `byte` does. Writes their words one after the other to
+    /// the buffer, and an outcome for each byte that completes a packet or has a line. The offset is the
+    /// offset of the first byte; each byte adds 1 to it, modulo 2^64. `block` says how far the call came.
     ///
-    /// Returns `Done` exactly if all bytes are taken, and `SmallBuffer` exactly before the first byte for
-    /// which no outcome is left, or for which the rest of the buffer has fewer places than any byte may need.
-    /// A byte that is refused ends the call with its status, has no outcome, and counts as taken and as
+    /// Returns `Done` exactly if all bytes are taken. Returns `SmallBuffer` exactly before the first byte for
+    /// which no outcome is left, or for which the rest of the buffer is smaller than any byte may need. A
+    /// byte that is refused ends the call with its status. It has no outcome, and counts as taken and as
     /// refused (own rules).
     pub fn bytes(
         &mut self,
@@ -499,7 +506,7 @@ impl CUp {
         status
     }
 
-    /// Writes the line of the message or exclusive that is open at the end of the stream. Returns `Nothing`
+    /// Writes the line for the message or exclusive that is open at the end of the stream. Returns `Nothing`
     /// if nothing is open; the line is then unchanged.
     pub fn end(&self, line: &mut ListingLine) -> Status
         ensures { HasEnd self.now line.old (number_of result) line.new }

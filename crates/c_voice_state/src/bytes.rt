@@ -22,8 +22,9 @@ use std::alloc::Global;
 use std::marker::Model;
 use voice_state::VoiceState;
 
-/// What the bytes of a MIDI 1.0 stream so far have left in a receiver. A contract sees what is kept of the
-/// groups, and the state of the parser. A stream has no groups: all its messages are in group 0 (own rule).
+/// The state in which the bytes of a MIDI 1.0 stream so far leave a receiver. In contracts its value is the
+/// stored state of the groups, and the state of the parser. A stream has no groups: all its messages are in
+/// group 0 (own rule).
 #[derive(Drop)]
 pub struct CByteState {
     state: VoiceState,
@@ -38,14 +39,14 @@ impl Model for CByteState {
     ghost view = { λ s. record { kept = s.state; parsing = s.parser } };
 }
 
-// The group that stands for a stream, which has none (own rule).
+// Returns the group that is used for a stream, which has none (own rule).
 fn stream_group() -> U4
     ensures { result ≡ 0 }
 {
     U4::low_bits(0)
 }
 
-// Takes a voice message.
+// Updates the state with a voice message.
 fn take_voice(state: &mut VoiceState, message: &Voice1) -> Status
     ensures { Changes as_they_come (after_message 0 (voice message.now))
         (GroupIs state.old 0 (IsGroupFull1 message.now)) state.old (number_of result) state.new }
@@ -53,7 +54,7 @@ fn take_voice(state: &mut VoiceState, message: &Voice1) -> Status
     kept_status(state.take_message(stream_group(), message))
 }
 
-// Takes what a byte does.
+// Updates the state with the step of a byte.
 fn take_step(state: &mut VoiceState, step: &Step<'_>) -> Status
     ensures { takes_step (step_view step.now) state.old (number_of result) state.new }
 {
@@ -84,9 +85,10 @@ fn take_step(state: &mut VoiceState, step: &Step<'_>) -> Status
 }
 
 impl CByteState {
-    /// Makes the state before the first byte, for exclusives of `room` bytes between F0 and F7, 6 to
-    /// 1,048,576, for `notes` notes and mode messages of each channel, and `params` parameters of each kind
-    /// and channel (own rule). Takes all memory that it ever needs; `NoMemory` if there isn't that much.
+    /// Creates the state before the first byte, for exclusives of `room` bytes between F0 and F7, 6 to
+    /// 1,048,576, with room for `notes` notes and mode messages of each channel, and for `params` parameters
+    /// of each kind and channel (own rule). Allocates all the memory that the state will ever need. Returns
+    /// `NoMemory` if there isn't enough.
     pub fn new(alloc: Global, room: u32, notes: u32, params: u32) -> Result<CByteState, NoMemory>
         requires least { 6 ≤ room }
         requires most { room ≤ 1048576 }
@@ -100,9 +102,9 @@ impl CByteState {
     }
 
     /// Takes one more byte (MIDI 1.0 Detailed Specification; RP-015). Returns `ExclusiveTooLong` if the byte
-    /// exceeds the limit of the exclusive, which is dropped, and `StateFull` exactly if the message that it
-    /// completes adds to a list that is full, so that it isn't kept; the byte is taken in either case. The
-    /// clauses also allow `NoMemory` if a message isn't kept.
+    /// makes the exclusive longer than the limit; the exclusive is dropped. Returns `StateFull` exactly if
+    /// the message that the byte completes would add to a list that is full; the message isn't stored. The
+    /// byte is taken in either case. The clauses also allow `NoMemory` if a message isn't stored.
     pub fn byte(&mut self, byte: u8) -> Status
         ensures { IsByteTaken self.old byte (number_of result) self.new }
     {
@@ -110,8 +112,8 @@ impl CByteState {
         take_step(&mut self.state, &step)
     }
 
-    /// Takes bytes that follow one another, each as `byte` does. The block says how far the call came.
-    /// Returns `Done` if all are taken. A byte that is refused ends the call with its status, and counts as
+    /// Takes bytes that follow one another, each as `byte` does. `block` says how far the call came. Returns
+    /// `Done` if all bytes are taken. A byte that is refused ends the call with its status, and counts as
     /// taken and as refused.
     pub fn bytes(&mut self, bytes: &[u8], block: &mut Block) -> Status
         ensures { AreBytesTaken self.old bytes.now (number_of result) block.new self.new }
@@ -129,7 +131,8 @@ impl CByteState {
         Status::Done
     }
 
-    /// Makes the state as `new` makes it with the same arguments (own rule). Takes no memory.
+    /// Returns the state to the one that `new` creates with the same arguments (own rule). The call doesn't
+    /// allocate.
     pub fn reset(&mut self)
         ensures parsing { self.new.parsing ≡ idle self.old.parsing.room }
         ensures kept { Keeps as_they_come self.new.kept (first_states as_they_come) }
@@ -140,12 +143,12 @@ impl CByteState {
     }
 
     /// Writes the facts of one channel of a group, 0 to 15 each, to the front of the buffer, and their number
-    /// to `written`: what isn't at its initial value, in the order of `show --state`. With channel 255 these
-    /// are the counts of the group's system messages (own rule).
+    /// to `written`. They are everything that isn't in its initial state, in the order of `show --state`.
+    /// With channel 255, the facts are the counts of the group's system messages (own rule).
     ///
-    /// Returns the first that applies of `BadGroup`, `BadChannel`, and `SmallBuffer` if the buffer has fewer
-    /// places than there are facts; `need` is then the number of facts, at most 2^64 - 1, and otherwise 0. No
-    /// fact is written then.
+    /// Returns the first that applies of `BadGroup`, `BadChannel`, and `SmallBuffer` if the buffer is smaller
+    /// than the number of facts. No fact is written then. With `SmallBuffer`, `need` is the number of facts,
+    /// at most 2^64 - 1; otherwise it is 0.
     pub fn facts(
         &self,
         group: u8,

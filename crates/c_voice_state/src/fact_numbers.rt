@@ -5,22 +5,32 @@ ghost use Rattle.c_voice_state.specs.Facts.{counted, lsb_of, msb_of, nothing_at,
 use voice_messages::{Bank, Param, ParamKind, U4, U7};
 use voice_state::{Fact, FactAddress};
 
-/// One fact of a state: a note or a channel mode message that came, a value that isn't at its initial one, or
-/// a count of system messages.
+/// One fact of a state: a note or a channel mode message that came, a value that isn't initial, or a count of
+/// system messages.
 #[repr(C)]
 #[derive(Clone, Copy)]
 pub struct FactNumbers {
-    /// The number of messages, of kinds 10 and 11, at most 2^64 - 1; of other kinds 0.
+    /// The number of messages, at most 2^64 - 1, for kinds 10 and 11; 0 for other kinds.
     pub count: u64,
-    /// The value: of 7 or 14 bits after bytes, of 16 or 32 after packets; 0 if there is none.
+    /// The value, which has 7 or 14 bits after bytes, and 16 or 32 bits after packets; 0 if there is none.
     pub value: u32,
-    /// 0: a note on. 1: a note off. 2: a channel mode message. 3: the pressure of a key. 4: a controller. 5:
-    /// the pressure of the channel. 6: the bend. 7: the program. 8: a registered parameter. 9: an assignable
-    /// parameter. 10: system common messages and exclusives. 11: system Real Time messages.
+    /// The kind of the fact:
+    /// - 0: a note on.
+    /// - 1: a note off.
+    /// - 2: a channel mode message.
+    /// - 3: the pressure of a key.
+    /// - 4: a controller.
+    /// - 5: the pressure of the channel.
+    /// - 6: the bend.
+    /// - 7: the program.
+    /// - 8: a registered parameter.
+    /// - 9: an assignable parameter.
+    /// - 10: system common messages and exclusives.
+    /// - 11: system Real Time messages.
     pub kind: u8,
     /// The group, 0 to 15.
     pub group: u8,
-    /// The channel, 0 to 15; 0 of kinds 10 and 11.
+    /// The channel, 0 to 15; 0 for kinds 10 and 11.
     pub channel: u8,
     /// The note, the index of the controller or the mode message, the program, or the LSB of the parameter's
     /// number: 0 to 127.
@@ -31,9 +41,9 @@ pub struct FactNumbers {
     pub bank_lsb: u8,
     /// Whether a bank was selected for the program.
     pub has_bank: bool,
-    /// Whether there is a value: always of kinds 0 to 6, and of a parameter if it was set.
+    /// Whether there is a value: always for kinds 0 to 6, and for a parameter if it was set.
     pub has_value: bool,
-    /// Whether a relative change of the parameter came since its value was set.
+    /// Whether a relative change of the parameter came after its value was set.
     pub is_loose: bool,
 }
 
@@ -55,7 +65,7 @@ fn lsb_of(bank: Option<Bank>) -> u8
     }
 }
 
-// The channel of a fact, or 0 for one without a channel.
+// Returns the channel of a fact, or 0 for a fact without a channel.
 fn channel_number(channel: Option<U4>) -> u8
     ensures { result ≡ unwrap_or channel 0 }
 {
@@ -66,8 +76,8 @@ fn channel_number(channel: Option<U4>) -> u8
 }
 
 impl FactNumbers {
-    // A fact at this address without numbers of its own. The channel is 0 if the fact is about the whole
-    // group.
+    // Returns a fact at this address without numbers of its own. The channel is 0 if the fact is about the
+    // whole group.
     fn at(address: FactAddress) -> FactNumbers
         ensures { result ≡ nothing_at address }
     {

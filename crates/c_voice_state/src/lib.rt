@@ -1,5 +1,8 @@
-//! The running state for callers in C: the state in which packets or bytes leave a receiver, as plain structs
-//! of numbers (facts).
+//! Keeps the running state for callers in C: the state in which packets or bytes leave a receiver, as plain
+//! structs of numbers (facts).
+//!
+//! Start with [`CPacketState`] or [`CByteState`]. `packet` or `byte` updates the state, and `facts` writes
+//! [`FactNumbers`].
 #![tactic(auto)]
 
 pub mod bytes;

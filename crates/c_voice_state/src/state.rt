@@ -23,7 +23,7 @@ use ump_grammar::{Packet, decode};
 use voice_messages::Form;
 use voice_state::{NotKept, VoiceState};
 
-// The status of a message, by whether it is kept.
+// Returns the status for a message, by whether it is stored.
 pub(crate) fn kept_status(kept: Result<(), NotKept>) -> Status
     ensures { number_of result ≡ kept_status kept }
 {
@@ -34,11 +34,11 @@ pub(crate) fn kept_status(kept: Result<(), NotKept>) -> Status
     }
 }
 
-/// What the packets so far have left in a receiver. A contract sees what is kept of the groups, and the
-/// exclusives that they have open.
+/// The state in which the packets so far leave a receiver. In contracts its value is the stored state of the
+/// groups, and the exclusives that they have open.
 ///
-/// Notes and channel mode messages are kept as a list of all that came, parameters by their numbers. All
-/// memory is taken by `new`.
+/// Notes and channel mode messages are stored as a list of all that came, and parameters by their numbers.
+/// `new` allocates all the memory.
 #[derive(Drop)]
 pub struct CPacketState {
     state: VoiceState,
@@ -54,9 +54,10 @@ impl Model for CPacketState {
 }
 
 impl CPacketState {
-    /// Makes the state before the first packet, for exclusives of `room` bytes between F0 and F7, 6 to
-    /// 1,048,576, for `notes` notes and mode messages of each channel, and `params` parameters of each kind
-    /// and channel (own rule). Takes all memory that it ever needs; `NoMemory` if there isn't that much.
+    /// Creates the state before the first packet, for exclusives of `room` bytes between F0 and F7, 6 to
+    /// 1,048,576, with room for `notes` notes and mode messages of each channel, and for `params` parameters
+    /// of each kind and channel (own rule). Allocates all the memory that the state will ever need. Returns
+    /// `NoMemory` if there isn't enough.
     pub fn new(alloc: Global, room: u32, notes: u32, params: u32) -> Result<CPacketState, NoMemory>
         requires least { 6 ≤ room }
         requires most { room ≤ 1048576 }
@@ -69,7 +70,7 @@ impl CPacketState {
         Ok(CPacketState { state, groups })
     }
 
-    // Takes a part of an exclusive; one that is whole is counted.
+    // Takes a part of an exclusive, and counts the exclusive if it is now whole.
     fn part(&mut self, group: U4, form: Form, bytes: &[u8]) -> Status
         requires few { length bytes.now ≤ 6 }
         requires data_bytes { IsData bytes.now }
@@ -114,10 +115,10 @@ impl CPacketState {
         kept_status(self.state.take_packet(packet))
     }
 
-    /// Takes the packet that the words encode (M2-104-UM). Returns `BadWordCount` if they aren't those of one
-    /// packet, `BadCount` or `HighBit` if no packet has them, and `StateFull` exactly if the message adds to
-    /// a list that is full; nothing has changed then. `ExclusiveTooLong` drops the exclusive of the group.
-    /// The clauses also allow `NoMemory`, which changes nothing.
+    /// Takes the packet that the words encode (M2-104-UM). Returns `BadWordCount` if the words aren't those
+    /// of one packet, `BadCount` or `HighBit` if no packet has these words, and `StateFull` exactly if the
+    /// message would add to a list that is full. In these cases nothing has changed. `ExclusiveTooLong` drops
+    /// the exclusive of the group. The clauses also allow `NoMemory`, which changes nothing.
     pub fn packet(&mut self, words: &[u32]) -> Status
         ensures { IsPacketTaken self.old words.now (number_of result) self.new }
     {
@@ -130,9 +131,9 @@ impl CPacketState {
         }
     }
 
-    /// Takes packets whose words follow one another, each as `packet` does. The block says how far the call
-    /// came. Returns `Done` if all words are taken, and `BadWordCount` before a last packet whose words
-    /// aren't all there. A packet that is refused ends the call with its status; its words count as taken and
+    /// Takes packets whose words follow one another, each as `packet` does. `block` says how far the call
+    /// came. Returns `Done` if all words are taken, and `BadWordCount` before a last packet whose words are
+    /// incomplete. A packet that is refused ends the call with its status, and its words count as taken and
     /// as refused.
     pub fn packets(&mut self, words: &[u32], block: &mut Block) -> Status
         ensures { ArePacketsTaken self.old words.now (number_of result) block.new self.new }
@@ -155,7 +156,8 @@ impl CPacketState {
         Status::Done
     }
 
-    /// Makes the state as `new` makes it with the same arguments (own rule). Takes no memory.
+    /// Returns the state to the one that `new` creates with the same arguments (own rule). The call doesn't
+    /// allocate.
     pub fn reset(&mut self)
         ensures exclusives { self.new.exclusives ≡ empty_table self.old.exclusives.room }
         ensures kept { Keeps raised self.new.kept (first_states raised) }
@@ -166,12 +168,12 @@ impl CPacketState {
     }
 
     /// Writes the facts of one channel of a group, 0 to 15 each, to the front of the buffer, and their number
-    /// to `written`: what isn't at its initial value, in the order of `show --state`. With channel 255 these
-    /// are the counts of the group's system messages (own rule).
+    /// to `written`. They are everything that isn't in its initial state, in the order of `show --state`.
+    /// With channel 255, the facts are the counts of the group's system messages (own rule).
     ///
-    /// Returns the first that applies of `BadGroup`, `BadChannel`, and `SmallBuffer` if the buffer has fewer
-    /// places than there are facts; `need` is then the number of facts, at most 2^64 - 1, and otherwise 0. No
-    /// fact is written then.
+    /// Returns the first that applies of `BadGroup`, `BadChannel`, and `SmallBuffer` if the buffer is smaller
+    /// than the number of facts. No fact is written then. With `SmallBuffer`, `need` is the number of facts,
+    /// at most 2^64 - 1; otherwise it is 0.
     pub fn facts(
         &self,
         group: u8,

@@ -13,10 +13,10 @@ use c_answers::Status;
 use small_types::U4;
 use voice_state::{ChannelFacts, Fact, VoiceState};
 
-/// The number of no channel, for the counts of the group (own rule).
+/// The channel number that stands for no channel, for the counts of the group (own rule).
 const NO_CHANNEL: u8 = 255;
 
-// The number of facts, at most 2^64 - 1.
+// Returns the number of facts, at most 2^64 - 1.
 fn count(facts: ChannelFacts<'_>) -> usize
     ensures { result ≡ count_of facts.entry }
 {
@@ -27,7 +27,7 @@ fn count(facts: ChannelFacts<'_>) -> usize
     count
 }
 
-// Writes the numbers of a channel's facts to the front of a buffer, as far as it has room.
+// Writes the numbers of a channel's facts to the front of a buffer, as many as fit.
 fn write_facts(facts: ChannelFacts<'_>, buffer: &mut [FactNumbers])
     ensures size { length buffer.new ≡ length buffer.old }
     ensures written { length facts.entry ≤ length buffer.old
@@ -42,8 +42,8 @@ fn write_facts(facts: ChannelFacts<'_>, buffer: &mut [FactNumbers])
     }
 }
 
-// Writes the numbers of a channel's facts, and returns how many there are; as `Err` if the buffer has fewer
-// places, and nothing is written then.
+// Writes the numbers of a channel's facts, and returns how many there are. If the buffer is smaller, returns
+// that number as the error and writes nothing.
 fn put_channel(
     state: &VoiceState,
     group: U4,
@@ -62,7 +62,7 @@ fn put_channel(
     Ok(count)
 }
 
-// Writes the numbers of one fact, in the same way; `put_two` those of two.
+// Writes the numbers of one fact, with the same result as `put_channel`. `put_two` writes those of two facts.
 fn put_one(fact: &Fact, buffer: &mut [FactNumbers]) -> Result<usize, usize>
     ensures { ArePut (fact.now ∷ []) buffer.old result buffer.new }
 {
@@ -84,7 +84,7 @@ fn put_two(first: &Fact, second: &Fact, buffer: &mut [FactNumbers]) -> Result<us
     Ok(2)
 }
 
-// Writes the numbers of a group's counts, in the same way.
+// Writes the numbers of a group's counts, with the same result as `put_channel`.
 fn put_counts(state: &VoiceState, group: U4, buffer: &mut [FactNumbers]) -> Result<usize, usize>
     ensures { (scale : Scale) (states : States) → Keeps scale state.now states
         → ArePut (group_counts group (states group)) buffer.old result buffer.new }
@@ -97,7 +97,8 @@ fn put_counts(state: &VoiceState, group: U4, buffer: &mut [FactNumbers]) -> Resu
     }
 }
 
-// Writes the numbers of the facts of a channel, or with channel 255 of a group's counts, in the same way.
+// Writes the numbers of the facts of a channel, or with channel 255 those of a group's counts, with the same
+// result as `put_channel`.
 fn put_asked(
     state: &VoiceState,
     group: U4,

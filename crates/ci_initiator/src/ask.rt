@@ -1,14 +1,14 @@
-// What an initiator asks.
+// The requests of an initiator.
 
-/// What an initiator asks of a peer. A number is that of a watch, counted from 0.
+/// A request that an initiator sends to a peer. A number is the number of a watch, counted from 0.
 #[derive(Clone, Copy, Debug, PartialEq, Eq)]
 pub enum Ask {
-    /// Who is there: Discovery, to all.
+    /// Discovery: asks all devices who is there.
     Discover,
-    /// Which profiles there are at the address of a watch: Profile Inquiry.
+    /// Profile Inquiry: asks the peer which profiles there are at the address of a watch.
     Inquire(usize),
-    /// That the profile of a watch is switched on: Set Profile On.
+    /// Set Profile On: asks the peer to enable the profile of a watch.
     On(usize),
-    /// That the profile of a watch is switched off: Set Profile Off.
+    /// Set Profile Off: asks the peer to disable the profile of a watch.
     Off(usize),
 }

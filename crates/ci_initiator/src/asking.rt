@@ -14,22 +14,22 @@ use ci_responder::CiMessage;
 /// The version of the message format.
 const VERSION: u8 = 2;
 
-/// The most bytes of a System Exclusive message that is taken.
+/// The largest System Exclusive message that the initiator says it accepts, in bytes.
 const MOST_BYTES: u32 = 512;
 
-/// Who asks whom about the profile of a watch.
+/// The initiator, the peer, and the profile that the initiator asks about.
 #[derive(Clone, Copy, Debug, PartialEq, Eq)]
 pub(crate) struct Question {
     /// The initiator's MUID. It isn't a reserved one.
     pub(crate) muid: Muid,
     /// The MUID of the peer.
     pub(crate) peer: Muid,
-    /// The profile that is asked about, and its address.
+    /// The profile that the initiator asks about, and its address.
     pub(crate) watch: Watch,
     ghost not_reserved: { muid < 0x0FFFFF00 },
 }
 
-/// Discovery.
+/// Creates a Discovery message.
 pub(crate) fn discovery(muid: Muid) -> CiMessage
     requires { muid < 0x0FFFFF00 }
     ensures { result ≡ discovery_of muid }
@@ -53,12 +53,12 @@ pub(crate) fn discovery(muid: Muid) -> CiMessage
     })
 }
 
-/// A Profile Inquiry.
+/// Creates a Profile Inquiry.
 pub(crate) fn inquiry(question: &Question) -> CiMessage
     ensures { result ≡ inquiry_of question.now.muid question.now.peer question.now.watch }
 {
     let watch = &question.watch;
-    // tells that the channel of the address is below 16
+    // says that the channel of the address is below 16
     watch.address.channels();
     let body = Body::ProfileInquiry;
     CiMessage::new(&CiView {
@@ -71,13 +71,13 @@ pub(crate) fn inquiry(question: &Question) -> CiMessage
     })
 }
 
-/// A Set Profile On.
+/// Creates a Set Profile On message.
 pub(crate) fn set_on(question: &Question) -> CiMessage
     ensures { result ≡ set_on_of question.now.muid question.now.peer question.now.watch }
 {
     let watch = &question.watch;
     let id = watch.id;
-    // tells that the id is five data bytes
+    // says that the id is five data bytes
     id.data_bytes();
     let channels = watch.address.channels();
     let body = Body::SetOn { id, channels };
@@ -91,15 +91,15 @@ pub(crate) fn set_on(question: &Question) -> CiMessage
     })
 }
 
-/// A Set Profile Off.
+/// Creates a Set Profile Off message.
 pub(crate) fn set_off(question: &Question) -> CiMessage
     ensures { result ≡ set_off_of question.now.muid question.now.peer question.now.watch }
 {
     let watch = &question.watch;
     let id = watch.id;
-    // tells that the id is five data bytes
+    // says that the id is five data bytes
     id.data_bytes();
-    // tells that the channel of the address is below 16
+    // says that the channel of the address is below 16
     watch.address.channels();
     let body = Body::SetOff { id };
     CiMessage::new(&CiView {

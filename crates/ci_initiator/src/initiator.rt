@@ -22,9 +22,9 @@ use std::alloc::Global;
 use std::marker::Model;
 use voice_messages::U4;
 
-/// Asks a peer for its profiles, and holds what the peer tells of those that are watched (M2-101-UM, profile
-/// configuration). To a contract it is what it knows: its own MUID, the peer's, and what it holds of each
-/// watch.
+/// Asks a peer for its profiles, and remembers what the peer says about those that are watched (M2-101-UM,
+/// profile configuration). In contracts its value is the initiator's own MUID, the peer's MUID, and what is
+/// known of each watch.
 #[derive(Drop)]
 pub struct Initiator {
     pub(crate) muid: Muid,
@@ -43,9 +43,9 @@ impl Model for Initiator {
 }
 
 impl Initiator {
-    /// Makes an initiator with a MUID of its own, below 0FFFFF00 (M2-101-UM, MUID), and at most 64 watches
-    /// that are all different (`watches_differ`). At first no peer is known, and nothing is held. The call
-    /// takes all memory that the initiator ever takes. `NoMemory` is returned if there isn't enough.
+    /// Creates an initiator with its own MUID, below 0FFFFF00 (M2-101-UM, MUID), and at most 64 watches that
+    /// are all different (`watches_differ`). At first no peer is known, and nothing is known of any watch.
+    /// Allocates all the memory that the initiator will ever need. Returns `NoMemory` if there isn't enough.
     pub fn new(alloc: Global, muid: u32, watches: &[Watch]) -> Result<Initiator, NoMemory>
         requires muid { muid < 0x0FFFFF00 }
         requires few { length watches.now ≤ 64 }
@@ -69,8 +69,8 @@ impl Initiator {
         })
     }
 
-    /// Tests whether `ask` writes a message (own rule): the watch is there, and a peer is known, which
-    /// Discovery doesn't need.
+    /// Returns whether `ask` can write this request (own rule): the watch must be there and a peer must be
+    /// known. Discovery needs neither.
     pub fn can_ask(&self, what: Ask) -> bool
         ensures { result ≡ is_some (asked_by self.now what) }
     {
@@ -82,7 +82,8 @@ impl Initiator {
         }
     }
 
-    // What the peer is asked about a watch.
+    // Returns the initiator, the peer and the watch of a request, or `None` if no peer is known or the watch
+    // isn't there.
     fn question(&self, k: usize) -> Option<Question>
         ensures { (write : ℕ → ℕ → Watch → List ℕ) →
             asked_with write self.now.muid self.now.peer (slice_get (watches_of self.now) k)
@@ -97,11 +98,11 @@ impl Initiator {
         })
     }
 
-    /// Writes what is asked as a message of version 02 (M2-101-UM). Discovery goes to all at the function
-    /// block, with an identity of zeros, the category of profiles, 512 as the most bytes and the output path
-    /// 0. The others go to the peer at the watch's address; Set Profile On has the count 1 for a channel and
-    /// 0 otherwise. Returns the message, or `None` exactly when the watch isn't there, or no peer is known
-    /// and something other than Discovery is asked.
+    /// Creates a request as a message of version 02 (M2-101-UM). Discovery goes to all devices at the
+    /// function block, with an identity of zeros, the category of profiles, 512 as the largest System
+    /// Exclusive message and the output path 0. Any other request goes to the peer at the watch's address,
+    /// and Set Profile On has 1 as the number of channels for a channel and 0 otherwise. Returns the message,
+    /// or `None` exactly if the request isn't Discovery and the watch isn't there or no peer is known.
     pub fn asked(&self, what: Ask) -> Option<CiMessage>
         ensures { result ≡ asked_by self.now what }
     {
@@ -122,8 +123,9 @@ impl Initiator {
         }
     }
 
-    /// Writes what is asked, from F0 to F7 (M2-101-UM), into an empty list, which `ci_messages::read` takes.
-    /// The watch must be there, and a peer must be known unless Discovery is asked: `can_ask` tests both.
+    /// Writes a request, from F0 to F7 (M2-101-UM), into an empty list. `ci_messages::read` accepts these
+    /// bytes. Unless the request is Discovery, the watch must be there and a peer must be known, which
+    /// `can_ask` tests.
     pub fn ask(&self, what: Ask, into: &mut ShortList<u8, 512>)
         requires asks { is_some (asked_by self.now what) ≡ true }
         requires empty { into.old ≡ [] }
@@ -135,8 +137,8 @@ impl Initiator {
         }
     }
 
-    /// Hears a message that `ci_messages::read` returned, on its group (M2-101-UM). Returns what is noted of
-    /// it. The call takes no memory.
+    /// Hears a message that `ci_messages::read` returned, on the message's group (M2-101-UM). Returns what
+    /// the initiator notes about it. The call doesn't allocate.
     pub fn hear(&mut self, group: U4, view: &CiView<'_>) -> Noted
         requires { IsView view.now }
         ensures noted { result ≡ noted_in self.old (incoming_of group view.now) }
@@ -147,7 +149,7 @@ impl Initiator {
         noted
     }
 
-    // What a message does that is noted so.
+    // Applies a message that is noted as `noted`.
     fn note(&mut self, noted: Noted, group: U4, view: &CiView<'_>)
         requires { IsView view.now }
         ensures { self.new ≡ after_by noted self.old (incoming_of group view.now) }
@@ -172,8 +174,8 @@ impl Initiator {
         self.watched.len()
     }
 
-    /// Returns the group on which a question is sent (own rule): that of the watch, and for Discovery that of
-    /// watch 0. It is 0 if there is no such watch.
+    /// Returns the group on which a request is sent (own rule): the group of the watch, or for Discovery the
+    /// group of watch 0. The group is 0 if there is no such watch.
     pub fn group_asked(&self, what: Ask) -> U4
         ensures { result ≡ group_asked (watches_of self.now) what }
     {
@@ -194,8 +196,8 @@ impl Initiator {
         }
     }
 
-    /// Returns the state of watch `k`, counted from 0 (M2-101-UM, profile configuration): whether the peer
-    /// last said that the profile is on. Returns `None` exactly when nothing is known.
+    /// Returns whether the peer last said that the profile of watch `k` is enabled (M2-101-UM, profile
+    /// configuration). Watches are counted from 0. Returns `None` exactly if nothing is known.
     pub fn holds(&self, k: usize) -> Option<bool>
         requires { k < length self.now.watched }
         ensures { option_map (λ watched. watched.held) (slice_get self.now.watched k) ≡ Some result }
@@ -203,7 +205,7 @@ impl Initiator {
         self.watched[k].held
     }
 
-    /// Returns the peer's MUID, below 2^28 (M2-101-UM, MUID), or `None` exactly when no peer is known.
+    /// Returns the peer's MUID, below 2^28 (M2-101-UM, MUID), or `None` exactly if no peer is known.
     pub fn peer(&self) -> Option<u32>
         ensures value { result ≡ self.now.peer }
         ensures fits { IfSome result (λ muid. muid < 2 ^ 28) }

@@ -10,31 +10,33 @@ ghost use Rattle.ci_initiator.specs.Laws.{
 
 use ci_responder::{block_of_a_group_is_the_one, held_is_the_history};
 
-/// What an initiator knows after any messages is what their history says, searched from the newest message
-/// back: the peer is the source of the first message of a peer after the last one by which it was gone, and
-/// of each watch is held what the last message said that told of it, unless the peer was gone after it. Each
-/// message is noted by the peer that was known before it.
+/// After any messages, what an initiator knows is what the definition finds by searching their history from
+/// the newest message back. The peer is the source of the first message that named a peer after the last one
+/// that ended a peer. For each watch, the initiator knows what the last message about it said, unless the
+/// peer was gone after that message. Each message is noted with the peer that was known before it.
 pub fn known_is_the_history()
     ensures { KnownIsTheHistory }
 {}
 
-/// What a view of a message tells an initiator is a function of the message's bytes and its group, by the
-/// places of M2-101-UM.
+/// The definitions see a message as its bytes and group say, by the positions of M2-101-UM. Any view that the
+/// bytes spell gives the same.
 pub fn views_tell_their_bytes()
     ensures { ViewsTellTheirBytes }
 {}
 
-/// What a rehearsal keeps is what its course says: both sides by the history of what each has heard, and the
-/// messages of both. An event leaves what the longer course says.
+/// The state of a rehearsal is the one that the definition finds for its course: both sides by the history of
+/// the messages that each has heard, and the messages of both. One more event leads to the state of the
+/// longer course.
 pub fn stage_is_the_course()
     ensures { StageIsTheCourse }
 {
     held_is_the_history();
 }
 
-/// Whatever was lost, repeated or out of order in a rehearsal: if the initiator holds a profile on, a
-/// reply of the responder told that it is on, by a report or by an inventory, and when that reply was made
-/// the responder's profile was on. The same holds of off. It isn't promised that the profile still is so.
+/// Messages of a rehearsal may be lost, repeated or delivered out of order. If the initiator nevertheless
+/// knows a profile to be enabled, then a reply of the responder said so, in a report or an inventory, and the
+/// responder's profile was enabled when that reply was made. The same holds for disabled. The law doesn't say
+/// that the profile is still in that state.
 pub fn what_is_held_was_told()
     ensures { HeldIsTold }
 {}
@@ -44,9 +46,9 @@ pub fn own_muid_is_the_least()
     ensures { OwnMuidIsTheLeast }
 {}
 
-/// Each watch of a rehearsal is of a profile of the setup: the responder's profile by which
-/// `what_is_held_was_told` speaks of the watch, which is that of the block of the watch's group, has a key
-/// that the setup names.
+/// Each watch of a rehearsal is for a profile of the setup. The law `what_is_held_was_told` is about one
+/// profile of the responder for each watch, in the block of the watch's group. The setup names the key of
+/// that profile.
 pub fn watches_are_of_the_setup()
     ensures { WatchesAreOfTheSetup }
 {

@@ -1,5 +1,9 @@
-//! A MIDI-CI initiator, which asks a peer about its profiles and remembers the answers; and rehearsals, which
-//! run it against a responder.
+//! Asks a MIDI-CI peer about profiles and remembers the answers, and rehearses such a conversation with a
+//! responder.
+//!
+//! Start with [`Initiator`]: `new` takes the profiles to watch, each a [`Watch`], `ask` writes a request (an
+//! [`Ask`]), and `hear` takes a message of the peer and returns a [`Noted`]. A [`Rehearsal`] is an initiator,
+//! the responder of a setup and the messages that they have sent.
 #![tactic(auto)]
 
 pub mod ask;

@@ -26,14 +26,14 @@ use voice_messages::U4;
 #[derive(Debug, Drop)]
 pub struct Sent {
     pub group: U4,
-    /// From F0 to F7.
+    /// The bytes of the message, from F0 to F7.
     pub bytes: CiMessage,
 }
 
 /// The most messages that one side sends.
 const MOST_MESSAGES: usize = 1024;
 
-/// The messages that one side has sent, by number. There is memory for 1,024.
+/// The messages that one side has sent, by number. Memory for 1,024 is reserved.
 #[derive(Drop)]
 pub(crate) struct Messages {
     sent: Vec<Sent>,
@@ -50,7 +50,7 @@ impl Model for Messages {
     ghost invariant = { λ m. 1024 ≤ vec_capacity m.sent };
 }
 
-// Adds a message, for which memory is reserved.
+// Adds a message. Memory for it is reserved.
 fn keep(messages: &mut Vec<Sent>, sent: Sent)
     requires { vec_len messages.old < vec_capacity messages.old }
     ensures items { messages.new.items ≡ messages.old.items ++ sent ∷ [] }
@@ -58,13 +58,13 @@ fn keep(messages: &mut Vec<Sent>, sent: Sent)
 {
     match messages.push(sent) {
         Ok(()) => {}
-        // Memory is reserved for 1,024 messages, and fewer are kept, so the push takes none.
+        // Memory is reserved for 1,024 messages, and fewer are stored, so the push doesn't allocate.
         Err(_) => unreachable!(),
     }
 }
 
 impl Messages {
-    /// No messages.
+    /// Creates an empty list of messages.
     pub(crate) fn new(alloc: Global) -> Result<Messages, NoMemory>
         ensures { IfOk result (λ messages. messages ≡ []) }
     {
@@ -74,21 +74,21 @@ impl Messages {
         }
     }
 
-    /// Whether there are 1,024.
+    /// Returns whether there are 1,024 messages.
     pub(crate) fn is_full(&self) -> bool
         ensures { result ≡ not (nat_lt (length self.now) 1024) }
     {
         self.sent.len() >= MOST_MESSAGES
     }
 
-    /// The message of a number, counted from 0.
+    /// Returns the message with this number, counted from 0.
     pub(crate) fn get(&self, number: usize) -> Option<&Sent>
         ensures { option_map (λ sent. sent.now) result ≡ slice_get self.now number }
     {
         self.sent.get(number)
     }
 
-    /// Keeps one more.
+    /// Adds a message.
     pub(crate) fn push(&mut self, sent: Sent)
         requires { length self.old < 1024 }
         ensures { self.new ≡ self.old ++ sent ∷ [] }

@@ -1,20 +1,22 @@
-// What is noted of a message.
+// What an initiator notes about a message.
 
-/// What an initiator notes of a MIDI-CI message (M2-101-UM). A message is `Other` if its source is the
-/// initiator's own MUID, or if it is neither for the initiator nor for all. Of any other message it notes the
-/// first of the rows after `Other` that applies, and `Other` if none does. Own rules are the order, what is
-/// held, and that a message with the initiator's own MUID as source is passed over.
+/// What an initiator notes about a MIDI-CI message (M2-101-UM). A message is `Other` if its source is the
+/// initiator's own MUID, or if it is neither for the initiator nor for all. Any other message is the first of
+/// the variants after `Other` that applies, or `Other` if none does. The order of the variants, what the
+/// initiator remembers, and passing over a message from its own MUID are own rules.
 #[derive(Clone, Copy, Debug, PartialEq, Eq)]
 pub enum Noted {
-    /// Nothing.
+    /// The initiator notes nothing.
     Other,
-    /// A Reply to Discovery while no peer is known, or from the peer. Its source is the peer.
+    /// The message is a Reply to Discovery, and no peer is known or the peer sent it. The source is now the
+    /// peer.
     Peer,
-    /// The peer's MUID is invalidated. No peer is known, and nothing is held.
+    /// The message invalidates the peer's MUID. Now no peer is known, and nothing is known of any watch.
     Gone,
-    /// The peer reports that the profile of this watch is on or off, and so it is held.
+    /// The peer reports that the profile of this watch is enabled or disabled, and the initiator remembers
+    /// it.
     Told(usize),
-    /// The peer tells the profiles of a place. Those watched that are in
-    /// the first list are held on, those in the second off.
+    /// The peer lists the profiles of a place. The initiator remembers watched profiles in the first list as
+    /// enabled, and those in the second as disabled.
     Inventory,
 }

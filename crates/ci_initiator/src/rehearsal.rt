@@ -39,11 +39,12 @@ use std::alloc::Global;
 use std::marker::Model;
 use voice_messages::U4;
 
-/// The most bytes of a System Exclusive message that the responder tells to take.
+/// The largest System Exclusive message that the responder says it accepts, in bytes.
 const ROOM: u32 = 512;
 
-/// An initiator and the responder of a setup (M2-101-UM), and the messages that each has sent, which are
-/// delivered as events say (own rule). To a contract it is both sides and the two lists of messages.
+/// An initiator and the responder of a setup (M2-101-UM), and the messages that each has sent. The events
+/// choose which messages are delivered (own rule). In contracts its value is both sides and the two lists of
+/// messages.
 #[derive(Drop)]
 pub struct Rehearsal {
     pub(crate) initiator: Initiator,
@@ -65,7 +66,7 @@ impl Model for Rehearsal {
     } };
 }
 
-// What is asked by a number.
+// Returns the request for a number.
 fn ask_of(number: u16) -> Ask
     ensures { result ≡ ask_of_number number }
 {
@@ -83,7 +84,7 @@ fn ask_of(number: u16) -> Ask
     }
 }
 
-// The event of a kind and a number.
+// Returns the event for a kind and a number.
 fn event_of(kind: u8, number: u16) -> Option<Event>
     ensures { result ≡ event_of_kind kind number }
 {
@@ -95,7 +96,7 @@ fn event_of(kind: u8, number: u16) -> Option<Event>
     }
 }
 
-// The responder hears a message: what it did with it, and its reply.
+// Passes a message to the responder. Returns what the responder did with it, and the reply.
 fn respond(responder: &mut Responder, sent: &Sent) -> (Heard, Option<CiMessage>)
     ensures heard { result.0 ≡ heard_in responder.old (received_in sent.now.group sent.now.bytes) }
     ensures after { responder.new
@@ -106,12 +107,12 @@ fn respond(responder: &mut Responder, sent: &Sent) -> (Heard, Option<CiMessage>)
     ci_responder::views_tell_their_bytes();
     match read(sent.bytes.as_slice()) {
         Ok(view) => responder.hear_message(sent.group, &view),
-        // Each side sends messages without a fault only, and such a message is read.
+        // Both sides send only messages without a fault, and `read` accepts these.
         Err(_) => unreachable!(),
     }
 }
 
-// The initiator hears a message.
+// Passes a message to the initiator.
 fn note(initiator: &mut Initiator, sent: &Sent) -> Noted
     ensures noted { result ≡ noted_in initiator.old (incoming_in sent.now.group sent.now.bytes) }
     ensures after { initiator.new ≡ after initiator.old (incoming_in sent.now.group sent.now.bytes) }
@@ -120,17 +121,18 @@ fn note(initiator: &mut Initiator, sent: &Sent) -> Noted
     crate::laws::views_tell_their_bytes();
     match read(sent.bytes.as_slice()) {
         Ok(view) => initiator.hear(sent.group, &view),
-        // Each side sends messages without a fault only, and such a message is read.
+        // Both sides send only messages without a fault, and `read` accepts these.
         Err(_) => unreachable!(),
     }
 }
 
 impl Rehearsal {
-    /// Makes the rehearsal of a setup (own rule). The responder is the setup's. The initiator has the least
-    /// MUID from 1 on that the setup doesn't name, and watches the profiles of one function block, in the
-    /// setup's order: of the first profile's whose block has MIDI-CI. If no profile's block has it, nothing
-    /// is watched. A profile of the function block is watched on its first group. The call takes all memory
-    /// that the rehearsal ever takes. `NoMemory` is returned if there isn't enough.
+    /// Creates the rehearsal of a setup (own rule). The responder is the setup's. The initiator has the least
+    /// MUID from 1 on that the setup doesn't name. It watches the profiles of one function block, in the
+    /// order of the setup: the block of the first profile whose block has MIDI-CI. If there is no such
+    /// profile, it watches nothing. A profile of the whole function block is watched on the block's first
+    /// group. Allocates all the memory that the rehearsal will ever need. Returns `NoMemory` if there isn't
+    /// enough.
     pub fn new(alloc: Global, setup: &Setup) -> Result<Rehearsal, NoMemory>
         ensures first { IfOk result (λ rehearsal. rehearsal ≡ first_stage setup.now) }
         ensures least { IfOk result (λ rehearsal.
@@ -138,7 +140,7 @@ impl Rehearsal {
         ensures distinct { IfOk result (λ rehearsal. profiles_are_distinct setup.now.profiles ≡ true) }
         ensures ids { IfOk result (λ rehearsal. HasIds setup.now.profiles) }
     {
-        // tells that no two profiles have the same block, place and id
+        // says that no two profiles have the same block, place and id
         let _distinct = setup.profile_count();
         let watches = watches(alloc, setup)?;
         Ok(Rehearsal {
@@ -157,9 +159,9 @@ impl Rehearsal {
         self.initiator.watches()
     }
 
-    /// Returns what the initiator holds of watch `k`, counted from 0 (M2-101-UM, profile configuration):
-    /// whether the responder last told it that the profile is on. Returns `None` exactly when nothing is
-    /// held.
+    /// Returns whether the responder last told the initiator that the profile of watch `k` is enabled
+    /// (M2-101-UM, profile configuration). Watches are counted from 0. Returns `None` exactly if the
+    /// initiator knows nothing of it.
     pub fn holds(&self, k: usize) -> Option<bool>
         requires { k < length self.now.initiator.watched }
         ensures { option_map (λ watched. watched.held) (slice_get self.now.initiator.watched k)
@@ -168,25 +170,26 @@ impl Rehearsal {
         self.initiator.holds(k)
     }
 
-    /// Returns whether a profile of the responder is on (M2-101-UM, profile configuration), or `None` exactly
-    /// when the setup doesn't name it.
+    /// Returns whether a profile of the responder is enabled (M2-101-UM, profile configuration), or `None`
+    /// exactly if the setup doesn't name the profile.
     pub fn profile_is_on(&self, key: &Key) -> Option<bool>
         ensures { result ≡ state_in self.now.responder.states key.now }
     {
         self.responder.profile_is_on(key)
     }
 
-    /// Takes the event of a kind and a number (own rule; the messages are those of M2-101-UM). Returns what
-    /// came of it. The call takes no memory, and after an error nothing has changed.
+    /// Handles the event of a kind and a number (own rule; the messages are those of M2-101-UM). Returns the
+    /// result of the event. The call doesn't allocate. After an error nothing has changed.
     ///
-    /// Kind 0 asks: number 0 for Discovery, and 1 + 3k, 2 + 3k and 3 + 3k for an inquiry, a switch on and a
-    /// switch off of watch k, on the group of the watch; Discovery is sent on that of watch 0, or on 0. Kind
-    /// 1 delivers the initiator's message of this number to the responder, and kind 2 the reply of this
-    /// number to the initiator; both count from 0.
+    /// - Kind 0 lets the initiator ask. Number 0 is Discovery. Numbers 1 + 3k, 2 + 3k and 3 + 3k are a
+    ///   Profile Inquiry, Set Profile On and Set Profile Off for watch k, on the group of that watch.
+    ///   Discovery is sent on the group of watch 0, or on group 0 if there is no watch.
+    /// - Kind 1 delivers the initiator's message of this number, counted from 0, to the responder.
+    /// - Kind 2 delivers the reply of this number, counted from 0, to the initiator.
     ///
-    /// `BadEvent` is returned exactly when the kind is above 2, the message or the watch isn't there, or the
-    /// initiator asks for more than Discovery and knows no peer. Otherwise `TooMany` is returned exactly when
-    /// kind 0 finds 1,024 messages of the initiator, or kind 1 finds 1,024 replies.
+    /// Returns `BadEvent` exactly if the kind is above 2, the message or the watch isn't there, or the
+    /// initiator asks for more than Discovery and knows no peer. Otherwise, returns `TooMany` exactly if the
+    /// kind is 0 and the initiator has sent 1,024 messages, or if the kind is 1 and there are 1,024 replies.
     pub fn event(&mut self, kind: u8, number: u16) -> Result<Told, EventFault>
         ensures { Steps (next_by self.old (event_of_kind kind number)) self.old self.new result }
     {
@@ -247,7 +250,7 @@ impl Rehearsal {
     }
 }
 
-// Keeps a reply, if there is one.
+// Stores a reply, if there is one.
 fn keep_reply(replies: &mut Messages, group: U4, reply: Option<CiMessage>)
     requires { length replies.old < 1024 }
     ensures { (payload : Option (List ℕ)) → reply ≡ message_of_reply payload →

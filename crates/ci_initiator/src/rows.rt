@@ -1,4 +1,4 @@
-// The row of a message, and what it tells of a watch.
+// How a message is noted, and what it says about a watch.
 ghost use Rattle.std.specs.Prelude.{◌≡◌, ◌≤◌, ◌+◌, length, map, position};
 ghost use Rattle.std.specs.Str.{bytes_eq};
 ghost use Rattle.ci_messages.specs.Positions.{part_at};
@@ -26,17 +26,17 @@ use crate::watch::{Watch, Watched};
 use ci_messages::{Body, CiView, Muid, ProfileId};
 use voice_messages::U4;
 
-/// How many bytes the id of a profile has.
+/// The number of bytes of a profile's id.
 const ID_BYTES: usize = 5;
 
-// Whether a message comes from the place of a watch.
+// Returns whether a message comes from the place of a watch.
 fn is_at(watch: &Watch, group: U4, view: &CiView<'_>) -> bool
     ensures { result ≡ is_at_watch watch.now (incoming_of group view.now) }
 {
     watch.group == group && watch.address == view.address
 }
 
-// Whether this is the peer's MUID.
+// Returns whether this is the peer's MUID.
 fn is_from(peer: Option<Muid>, number: u32) -> bool
     ensures { result ≡ is_from_peer peer number }
 {
@@ -46,7 +46,7 @@ fn is_from(peer: Option<Muid>, number: u32) -> bool
     }
 }
 
-// Whether this id stands at a place of some bytes.
+// Returns whether this id is in the five bytes from position `at` on.
 fn has_id_at(id: &ProfileId, ids: &[u8], at: usize) -> bool
     requires { at + 5 ≤ length ids.now }
     ensures { result ≡ bytes_eq (part_at ids.now at 5) id.now.bytes }
@@ -56,7 +56,7 @@ fn has_id_at(id: &ProfileId, ids: &[u8], at: usize) -> bool
     part == wanted.as_slice()
 }
 
-// Whether a list of ids of five bytes each has this id.
+// Returns whether a list of ids, each of five bytes, contains this id.
 fn lists(id: &ProfileId, ids: &[u8]) -> bool
     ensures { result ≡ is_listed id.now.bytes ids.now }
 {
@@ -68,21 +68,21 @@ fn lists(id: &ProfileId, ids: &[u8]) -> bool
     false
 }
 
-// Whether two ids are the same.
+// Returns whether two ids are the same.
 fn is_same_id(one: &ProfileId, other: &ProfileId) -> bool
     ensures { result ≡ bytes_eq one.now.bytes other.now.bytes }
 {
     one.bytes == other.bytes
 }
 
-// What is told by a report of one profile of another one.
+// Returns what a report of the profile `told` says about the profile `id`.
 fn state_of_report(told: &ProfileId, on: bool, id: &ProfileId) -> Option<bool>
     ensures { result ≡ state_told id.now.bytes (report told.now.bytes on) }
 {
     if is_same_id(told, id) { Some(on) } else { None }
 }
 
-// What is told of a profile by the list of those that are on, and the list of those that are off.
+// Returns what a list of enabled profiles and a list of disabled profiles say about a profile.
 fn state_in_lists(on: &[u8], off: &[u8], id: &ProfileId) -> Option<bool>
     ensures { result ≡ state_told id.now.bytes (inventory on.now off.now) }
 {
@@ -95,7 +95,7 @@ fn state_in_lists(on: &[u8], off: &[u8], id: &ProfileId) -> Option<bool>
     }
 }
 
-// What is said of the profile with this id.
+// Returns what a message's body says about the profile with this id.
 fn state(id: &ProfileId, body: &Body<'_>) -> Option<bool>
     ensures { result ≡ state_told id.now.bytes (said_in body.now) }
 {
@@ -107,7 +107,7 @@ fn state(id: &ProfileId, body: &Body<'_>) -> Option<bool>
     }
 }
 
-// What a message says of the profile of a watch.
+// Returns what a message says about the profile of a watch.
 fn told_of(watch: &Watch, group: U4, view: &CiView<'_>) -> Option<bool>
     ensures { result ≡ tells_of_watch (incoming_of group view.now) watch.now }
 {
@@ -118,7 +118,7 @@ fn told_of(watch: &Watch, group: U4, view: &CiView<'_>) -> Option<bool>
     }
 }
 
-// The state of a watch after a message that is noted so.
+// Returns the state of a watch after a message that is noted as `noted`.
 fn held_after(noted: Noted, watched: &Watched, group: U4, view: &CiView<'_>) -> Watched
     ensures { result ≡ held_by noted (incoming_of group view.now) watched.now }
 {
@@ -132,14 +132,14 @@ fn held_after(noted: Noted, watched: &Watched, group: U4, view: &CiView<'_>) -> 
     }
 }
 
-// Changes the state of one watch.
+// Updates the state of one watch.
 fn hold_one(watched: &mut Watched, noted: Noted, group: U4, view: &CiView<'_>)
     ensures { watched.new ≡ held_by noted (incoming_of group view.now) watched.old }
 {
     *watched = held_after(noted, watched, group, view);
 }
 
-/// Changes the state of each watch by a message that is noted so.
+/// Updates the state of each watch after a message that is noted as `noted`.
 pub(crate) fn hold(watched: &mut [Watched], noted: Noted, group: U4, view: &CiView<'_>)
     ensures { watched.new ≡ map (held_by noted (incoming_of group view.now)) watched.old }
 {
@@ -148,14 +148,14 @@ pub(crate) fn hold(watched: &mut [Watched], noted: Noted, group: U4, view: &CiVi
     }
 }
 
-// Whether a message is a report of the profile of a watch.
+// Returns whether a message is a report of the profile of a watch.
 fn is_report_of(id: &ProfileId, group: U4, view: &CiView<'_>, watched: &Watched) -> bool
     ensures { result ≡ is_report_of_watch id.now.bytes (incoming_of group view.now) watched.now.watch }
 {
     is_at(&watched.watch, group, view) && is_same_id(id, &watched.watch.id)
 }
 
-// The watch of which a message reports the profile.
+// Returns the watch whose profile a message reports.
 fn watch_reported(
     watched: &[Watched],
     id: &ProfileId,
@@ -170,7 +170,7 @@ fn watch_reported(
         .position(|watched| is_report_of(id, group, view, watched))
 }
 
-// The row of a report, by the watch that it is of.
+// Returns how a report is noted, given the watch that it is about.
 fn told(watch: Option<usize>) -> Noted
     ensures { result ≡ told_row watch }
 {
@@ -180,7 +180,7 @@ fn told(watch: Option<usize>) -> Noted
     }
 }
 
-// The row of a report from the peer.
+// Returns how a report from the peer is noted.
 fn row_of_report(watched: &[Watched], id: &ProfileId, group: U4, view: &CiView<'_>) -> Noted
     ensures { result ≡ told_row (position (is_report_of_watch id.now.bytes (incoming_of group view.now))
         (map (λ watched. watched.watch) watched.now)) }
@@ -188,7 +188,7 @@ fn row_of_report(watched: &[Watched], id: &ProfileId, group: U4, view: &CiView<'
     told(watch_reported(watched, id, group, view))
 }
 
-// The row of a message that is for the initiator.
+// Returns how a message for the initiator is noted.
 fn row_by_body(peer: Option<Muid>, watched: &[Watched], group: U4, view: &CiView<'_>) -> Noted
     ensures { result ≡ row_of_said peer (map (λ watched. watched.watch) watched.now)
         (incoming_of group view.now) (said_in view.now.body) }
@@ -204,7 +204,7 @@ fn row_by_body(peer: Option<Muid>, watched: &[Watched], group: U4, view: &CiView
     }
 }
 
-/// The row of a message, for the initiator of a MUID that knows this peer.
+/// Returns how a message is noted by an initiator that has this MUID and knows this peer.
 pub(crate) fn noted_row(
     muid: Muid,
     peer: Option<Muid>,

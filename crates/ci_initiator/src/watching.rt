@@ -1,4 +1,4 @@
-// What an initiator takes from a setup.
+// Chooses the MUID and the watches of an initiator from a setup.
 ghost use Rattle.std.specs.Prelude.{◌≡◌, ◌≤◌, ◌∷◌, ◌++◌, [], length, slice_get, true, IfOk, OnOk};
 ghost use Rattle.ci_initiator.specs.Known.{are_different};
 ghost use Rattle.ci_initiator.specs.Watching.{
@@ -27,21 +27,21 @@ use voice_messages::{U4, U7};
 /// The most MUIDs that a block names.
 const MOST_MUIDS: u32 = 16;
 
-// Whether a block names a MUID.
+// Returns whether a block names a MUID.
 fn names(block: &Block, muid: u32) -> bool
     ensures { result ≡ names_muid muid block.now }
 {
     block.muids.as_slice().iter().any(|named| *named == muid)
 }
 
-// Whether a block of the setup names a MUID.
+// Returns whether a block of the setup names a MUID.
 fn is_named(setup: &Setup, muid: u32) -> bool
     ensures { result ≡ is_named_by setup.now.blocks muid }
 {
     setup.blocks().iter().any(|block| names(block, muid))
 }
 
-// The first number from 1 on that the setup doesn't name, within so many.
+// Returns the first number from 1 on that the setup doesn't name, after at most `tries` tries.
 fn first_unnamed(setup: &Setup, tries: u32) -> u32
     requires { tries ≤ 512 }
     ensures value { result ≡ first_unnamed_of setup.now.blocks tries 1 }
@@ -55,7 +55,7 @@ fn first_unnamed(setup: &Setup, tries: u32) -> u32
     tries + 1
 }
 
-/// The least number from 1 on that the setup doesn't name as a MUID.
+/// Returns the least number from 1 on that the setup doesn't name as a MUID.
 pub(crate) fn own_muid(setup: &Setup) -> u32
     ensures value { result ≡ own_muid_of setup.now.blocks }
     ensures least { IsLeastUnnamed setup.now.blocks result }
@@ -65,7 +65,7 @@ pub(crate) fn own_muid(setup: &Setup) -> u32
     first_unnamed(setup, MOST_MUIDS * count)
 }
 
-// Whether the block of a number has MIDI-CI.
+// Returns whether the block with this number has MIDI-CI.
 fn has_ci_at(setup: &Setup, number: u8) -> bool
     ensures { result ≡ has_ci_at_number setup.now.blocks number }
 {
@@ -75,7 +75,7 @@ fn has_ci_at(setup: &Setup, number: u8) -> bool
     }
 }
 
-// The block of the first profile whose block has MIDI-CI.
+// Returns the block of the first profile whose block has MIDI-CI.
 fn watched_block(setup: &Setup) -> Option<u8>
     ensures { result ≡ watched_block_of setup.now.blocks setup.now.profiles }
 {
@@ -87,7 +87,7 @@ fn watched_block(setup: &Setup) -> Option<u8>
     None
 }
 
-// The first group of the block of a number; 0 if there is none.
+// Returns the first group of the block with this number, or 0 if there is no such block.
 fn first_group_of(setup: &Setup, number: u8) -> U4
     ensures { result ≡ first_group_of_block (slice_get setup.now.blocks number) }
 {
@@ -97,7 +97,7 @@ fn first_group_of(setup: &Setup, number: u8) -> U4
     }
 }
 
-// The first group of the watched block; 0 if there is none.
+// Returns the first group of the watched block, or 0 if there is no such block.
 fn first_group(setup: &Setup, watched: Option<u8>) -> U4
     ensures { result ≡ first_group_watched setup.now.blocks watched }
 {
@@ -107,19 +107,19 @@ fn first_group(setup: &Setup, watched: Option<u8>) -> U4
     }
 }
 
-// The id of a profile.
+// Returns the id of a profile.
 fn id_of(profile: &Profile) -> ProfileId
     ensures value { result.bytes ≡ profile.now.id }
     ensures five { length profile.now.id ≡ 5 }
 {
     let bytes = profile.id;
     let id = ProfileId { bytes };
-    // tells that the id has five bytes
+    // says that the id has five bytes
     id.data_bytes();
     id
 }
 
-// The watch of a place and an id, in a block with this first group.
+// Returns the watch for a place and an id, in a block with this first group.
 fn watch_at(first: U4, place: Place, id: ProfileId) -> Watch
     ensures { result ≡ watch_at_place first place id.bytes }
 {
@@ -142,8 +142,8 @@ fn watch_at(first: U4, place: Place, id: ProfileId) -> Watch
     }
 }
 
-// Adds the watch of an address on a group and of an id. It takes the parts, since the toolchain proves no
-// push of a whole watch here.
+// Adds the watch for an address on a group and an id. The function takes the parts, because the toolchain
+// can't prove a push of a whole watch here.
 fn push_watch(
     watches: &mut Vec<Watch>,
     group: U4,
@@ -161,7 +161,7 @@ fn push_watch(
     }
 }
 
-// Adds the watch of a profile, if it is of the watched block.
+// Adds the watch of a profile, if the profile belongs to the watched block.
 fn add_watch(
     watches: &mut Vec<Watch>,
     watched: Option<u8>,
@@ -180,7 +180,7 @@ fn add_watch(
     push_watch(watches, watch.group, watch.address, watch.id.bytes)
 }
 
-/// The watches of the profiles of the watched block, in the setup's order.
+/// Returns the watches of the watched block's profiles, in the order of the setup.
 pub(crate) fn watches(alloc: Global, setup: &Setup) -> Result<Vec<Watch>, NoMemory>
     ensures value { IfOk result (λ watches. watches.items ≡ watches_of_setup setup.now) }
     ensures few { IfOk result (λ watches. length watches.items ≤ 64) }

@@ -1,8 +1,8 @@
-// What a message is, and in which format.
+// The kind of a message, and the format of its fields.
 ghost use Rattle.std.specs.Prelude.{◌≡◌};
 ghost use Rattle.ci_messages.specs.Messages.{has_row as has_row_of};
 
-/// What a message is, by its sub-id and version: a kind for each variant of a body.
+/// The kind of a message, by its sub-id and version. There is one kind for each variant of a body.
 #[derive(Clone, Copy, Debug, PartialEq, Eq)]
 pub enum Kind {
     Discovery,
@@ -21,7 +21,7 @@ pub enum Kind {
     Other,
 }
 
-// Whether a message of this sub-id and version has fields of its own.
+// Returns whether a message of this sub-id and version has fields of its own.
 fn has_row(sub: u8, version: u8) -> bool
     ensures { result ≡ has_row_of sub version }
 {
@@ -36,7 +36,7 @@ impl Kind {
     ghost use Rattle.std.specs.Prelude.{◌≡◌};
     ghost use Rattle.ci_messages.specs.Messages.{kind_of};
 
-    /// The kind of a message.
+    /// Returns the kind of a message.
     pub fn of(sub: u8, version: u8) -> Kind
         ensures { result ≡ kind_of sub version }
     {
@@ -62,12 +62,12 @@ impl Kind {
     }
 }
 
-/// Which fields the bodies have, by the version of their message (own rule).
+/// Says which fields the bodies have, by the version of the message (own rule).
 #[derive(Clone, Copy, Debug, PartialEq, Eq)]
 pub enum Format {
-    /// Version 01: some fields have no place.
+    /// Version 01: some fields aren't in the message.
     Short,
-    /// Version 02 and above.
+    /// Version 02 and above: all fields are in the message.
     Full,
 }
 
@@ -75,7 +75,7 @@ impl Format {
     ghost use Rattle.std.specs.Prelude.{◌≡◌};
     ghost use Rattle.ci_messages.specs.Messages.{format_of};
 
-    /// The format of a message.
+    /// Returns the format of a message.
     pub fn of(version: u8) -> Format
         ensures { result ≡ format_of version }
     {

@@ -1,4 +1,7 @@
-//! Messages of MIDI-CI, read from an exclusive and written as one.
+//! Reads MIDI-CI messages from System Exclusive messages, and writes them.
+//!
+//! Start with [`read`], which returns the [`CiView`] of an exclusive or a [`CiFault`]. Its field `body` is a
+//! [`Body`] with the fields of the message. [`write`] is the inverse. [`Muid`] is the number of a device.
 #![tactic(auto)]
 
 mod kind;

@@ -4,14 +4,14 @@ ghost use Rattle.ci_messages.specs.Reading.{is_reserved as is_reserved_of};
 
 use std::marker::Model;
 
-/// The destination of a message that is for all (M2-101-UM, MUID).
+/// The destination of a message that is for all devices (M2-101-UM, MUID).
 pub const BROADCAST: u32 = 0x0FFF_FFFF;
 
 /// The first of the MUIDs that no device may have as its own.
 const FIRST_RESERVED: u32 = 0x0FFF_FF00;
 
-/// A MUID, the number of 28 bits by which a device of MIDI-CI is addressed (M2-101-UM, MUID). To a contract
-/// it is the number.
+/// A MUID: the number of 28 bits by which a MIDI-CI device is addressed (M2-101-UM, MUID). In contracts its
+/// value is the number.
 #[derive(Clone, Copy, Debug, PartialEq, Eq)]
 pub struct Muid {
     number: u32,
@@ -29,8 +29,8 @@ impl Model for Muid {
     ghost inverse = { λ n. record { number = n } };
 }
 
-/// Whether no device may have this number as its own MUID: 0FFFFF00 and above, which are reserved or
-/// broadcast.
+/// Returns whether no device may have this number as its own MUID. These numbers are 0FFFFF00 and above,
+/// which are reserved or broadcast.
 pub(crate) fn is_reserved(number: u32) -> bool
     ensures { result ≡ is_reserved_of number }
 {
@@ -38,7 +38,8 @@ pub(crate) fn is_reserved(number: u32) -> bool
 }
 
 impl Muid {
-    /// Makes the MUID of this number (M2-101-UM, MUID). Returns `None` exactly if it has more than 28 bits.
+    /// Creates the MUID of this number (M2-101-UM, MUID). Returns `None` exactly if the number has more than
+    /// 28 bits.
     pub fn new(number: u32) -> Option<Muid>
         ensures { MatchOption result (2 ^ 28 ≤ number) (λ muid. (muid ≡ number) × (number < 2 ^ 28)) }
     {
@@ -49,7 +50,7 @@ impl Muid {
         }
     }
 
-    /// Makes the MUID of a number below 0FFFFF00, which a device may have as its own (M2-101-UM, MUID).
+    /// Creates the MUID of a number below 0FFFFF00, which a device may have as its own (M2-101-UM, MUID).
     pub fn unreserved(number: u32) -> Muid
         requires { number < 0x0FFFFF00 }
         ensures { result ≡ number }
@@ -57,7 +58,7 @@ impl Muid {
         Muid { number }
     }
 
-    /// Returns the number, of 28 bits (M2-101-UM, MUID).
+    /// Returns the number, which has 28 bits (M2-101-UM, MUID).
     pub fn get(self) -> u32
         ensures value { result ≡ self }
         ensures fits { self < 2 ^ 28 }

@@ -1,4 +1,4 @@
-// Parts of a message by their places.
+// Returns parts of a message by their positions.
 ghost use Rattle.std.specs.Prelude.{◌≡◌, ◌<◌, ◌≤◌, ◌+◌, length};
 ghost use Rattle.ci_messages.specs.Positions.{byte_at, part_at, number2_at, number4_at};
 ghost use Rattle.ci_messages.specs.Fields.{IsData};
@@ -6,7 +6,7 @@ ghost use Rattle.ci_messages.specs.Fields.{IsData};
 use crate::view::ProfileId;
 use voice_messages::U7;
 
-/// This many bytes from a place on.
+/// Returns the `size` bytes from position `at` on.
 pub fn part(bytes: &[u8], at: usize, size: usize) -> &[u8]
     requires { at + size ≤ length bytes.now }
     ensures { result.now ≡ part_at bytes.now at size }
@@ -14,7 +14,7 @@ pub fn part(bytes: &[u8], at: usize, size: usize) -> &[u8]
     &bytes[at..at + size]
 }
 
-/// `N` bytes from a place on.
+/// Returns the `N` bytes from position `at` on.
 pub fn array<const N: usize>(bytes: &[u8], at: usize) -> [u8; N]
     requires { at + N ≤ length bytes.now }
     ensures { result ≡ part_at bytes.now at N }
@@ -22,7 +22,7 @@ pub fn array<const N: usize>(bytes: &[u8], at: usize) -> [u8; N]
     *bytes[at..].first_chunk().unwrap()
 }
 
-/// A number of two bytes from a place on, seven bits each, the lowest first.
+/// Returns the number in the two bytes from position `at` on, seven bits each, the lowest bits first.
 pub fn number_of_two(bytes: &[u8], at: usize) -> u32
     requires { at + 2 ≤ length bytes.now }
     ensures value { result ≡ number2_at bytes.now at }
@@ -31,7 +31,7 @@ pub fn number_of_two(bytes: &[u8], at: usize) -> u32
     u32::from(bytes[at]) + 128 * u32::from(bytes[at + 1])
 }
 
-/// A number of four bytes.
+/// Returns the number in the four bytes from position `at` on, seven bits each, the lowest bits first.
 pub fn number_of_four(bytes: &[u8], at: usize) -> u32
     requires { at + 4 ≤ length bytes.now }
     ensures { result ≡ number4_at bytes.now at }
@@ -39,7 +39,7 @@ pub fn number_of_four(bytes: &[u8], at: usize) -> u32
     number_of_two(bytes, at) + 16384 * number_of_two(bytes, at + 2)
 }
 
-/// The data byte at a place.
+/// Returns the data byte at a position.
 fn data_byte(bytes: &[u8], at: usize) -> U7
     requires within { at < length bytes.now }
     requires data_bytes { IsData bytes.now }
@@ -48,7 +48,7 @@ fn data_byte(bytes: &[u8], at: usize) -> U7
     U7::low_bits(u32::from(bytes[at]))
 }
 
-/// A profile's id from a place on.
+/// Returns the profile id in the five bytes from position `at` on.
 pub fn profile_id(bytes: &[u8], at: usize) -> ProfileId
     requires within { at + 5 ≤ length bytes.now }
     requires data_bytes { IsData bytes.now }

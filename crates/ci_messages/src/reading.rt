@@ -1,4 +1,4 @@
-// From the bytes of a message to its view.
+// Reads the bytes of a message as a view.
 ghost use Rattle.std.specs.Prelude.{
   ◌≡◌,
   ◌≤◌,
@@ -35,13 +35,13 @@ use crate::positions::{array, number_of_four, number_of_two, part, profile_id};
 use crate::view::{Address, Body, CiFault, CiView, NO_BLOCK, ProfileId};
 use voice_messages::U4;
 
-/// The place at which the body begins.
+/// The position at which the body begins.
 const BODY: usize = 14;
 
-/// The bytes of a message without a body: those before it, and F7.
+/// The number of bytes of a message without a body: the bytes before the body, and F7.
 const SHORTEST: usize = 15;
 
-// The address of a number; `None` exactly when there is none.
+// Returns the address that a number stands for, or `None` exactly if the number is no address.
 fn address(number: u8) -> Option<Address>
     ensures { result ≡ address_of number }
 {
@@ -52,7 +52,7 @@ fn address(number: u8) -> Option<Address>
     }
 }
 
-// The path of a Discovery.
+// Returns the output path id of a Discovery.
 fn path(format: Format, body: &[u8]) -> Option<u8>
     ensures { ReadsFields (path_in format ∷ []) body.now 16 (option_map (λ path. number path ∷ []) result) }
 {
@@ -82,7 +82,7 @@ fn discovery<'a>(format: Format, body: &'a [u8]) -> Option<Body<'a>>
     })
 }
 
-// The path and the block of a Reply to Discovery.
+// Returns the output path id and the function block of a Reply to Discovery.
 fn path_and_block(format: Format, body: &[u8]) -> Option<(u8, u8)>
     ensures { ReadsFields (path_in format ∷ block_in format ∷ []) body.now 16
         (option_map (λ end. number end.0 ∷ number end.1 ∷ []) result) }
@@ -126,8 +126,8 @@ fn endpoint_inquiry<'a>(body: &'a [u8]) -> Option<Body<'a>>
     Some(Body::EndpointInquiry { status })
 }
 
-// The items of `size` bytes each that follow their count at a place;
-// `None` exactly when the bytes end too early.
+// Returns the items of `size` bytes each that follow their count at position `at`. Returns `None` exactly if
+// the bytes end too early.
 fn counted<'a>(body: &'a [u8], at: usize, size: usize) -> Option<&'a [u8]>
     requires place { at ≤ length body.now }
     requires size { size ≤ 5 }
@@ -207,7 +207,7 @@ fn profile_reply<'a>(body: &'a [u8]) -> Option<Body<'a>>
     Some(Body::ProfileReply { on, off })
 }
 
-// A profile's id, and the number of channels.
+// Returns a profile's id and the number of channels.
 fn switch(format: Format, body: &[u8]) -> Option<(ProfileId, u16)>
     requires { IsData body.now }
     ensures { ReadsFields (bytes 5 ∷ channels_in format ∷ []) body.now 0
@@ -245,7 +245,7 @@ fn set_off<'a>(format: Format, body: &'a [u8]) -> Option<Body<'a>>
     })
 }
 
-// The body of a message of a kind; `None` exactly when it is shorter than its fields.
+// Returns the body of a message of this kind. Returns `None` exactly if the body ends before its fields do.
 fn body_of_kind<'a>(format: Format, kind: Kind, body: &'a [u8]) -> Option<Body<'a>>
     requires { IsData body.now }
     ensures { ReadsBody format kind body.now result }
@@ -277,14 +277,14 @@ fn body_of_kind<'a>(format: Format, kind: Kind, body: &'a [u8]) -> Option<Body<'
     }
 }
 
-// Whether an exclusive is universal, non-realtime and of MIDI-CI.
+// Returns whether an exclusive is universal, non-realtime and for MIDI-CI.
 fn is_ci(message: &[u8]) -> bool
     ensures { result ≡ not (is_not_ci message.now) }
 {
     message.len() >= 6 && message[1] == 0x7E && message[3] == 0x0D
 }
 
-// What is between the destination and F7.
+// Returns the bytes between the destination and F7.
 fn body_bytes(message: &[u8]) -> &[u8]
     requires exclusive { IsExclusive message.now }
     requires long_enough { 15 ≤ length message.now }
@@ -294,10 +294,11 @@ fn body_bytes(message: &[u8]) -> &[u8]
     &message[BODY..message.len() - 1]
 }
 
-/// Reads a message (M2-101-UM) from its exclusive, which has data bytes between F0 and F7. The view borrows
-/// the texts, lists and unread bytes of the exclusive. Bytes that follow the fields of a body are ignored.
+/// Reads a message (M2-101-UM) from an exclusive, which has data bytes between F0 and F7. The view borrows
+/// the texts, lists and unread bytes of the exclusive. Bytes after the fields of a body are ignored. For
+/// example, an exclusive of the five bytes F0 7E 7F 0D F7 is `NotCi`, because it has fewer than 6.
 ///
-/// A fault is the first of these that applies:
+/// Returns the first of these faults that applies:
 /// - `NotCi`: there are fewer than 6 bytes, or byte 2 (F0 is byte 1) isn't 7E, or byte 4 isn't 0D;
 /// - `Short`: there are fewer than 15 bytes, or the version is 1 or more and the body ends before its fields
 ///   do;
@@ -305,7 +306,7 @@ fn body_bytes(message: &[u8]) -> &[u8]
 /// - `ReservedMuid`: the source is 0FFFFF00 or above.
 ///
 /// A version above 02 is kept, and its messages are read as those of version 02. Messages of version 01 are
-/// read in short forms, which `Body` lists, and the body of a message of version 00 is `Other` (own rules).
+/// read in the short forms that `Body` lists, and the body of a message of version 00 is `Other` (own rules).
 pub fn read<'a>(message: &'a [u8]) -> Result<CiView<'a>, CiFault>
     requires { IsExclusive message.now }
     ensures { Reads message.now result }

@@ -1,4 +1,4 @@
-// What a message says.
+// The contents of a message.
 use crate::muid::{BROADCAST, Muid};
 use thiserror::Error;
 use voice_messages::{U4, U7};
@@ -6,11 +6,11 @@ use voice_messages::{U4, U7};
 /// The number that stands for no function block (M2-101-UM, Reply to Discovery).
 pub const NO_BLOCK: u8 = 0x7F;
 
-/// The bit of Profile Configuration among the categories of MIDI-CI
-/// that a device supports (M2-101-UM, Discovery).
+/// The bit of Profile Configuration in the categories of MIDI-CI that a device supports (M2-101-UM,
+/// Discovery).
 pub const PROFILE_CONFIGURATION: u8 = 4;
 
-/// What a message is about (M2-101-UM, device id).
+/// The channel, group or function block that a message is about (M2-101-UM, device id).
 #[derive(Clone, Copy, Debug, PartialEq, Eq)]
 pub enum Address {
     /// 00 to 0F: a channel of the group on which the message is sent.
@@ -34,7 +34,7 @@ impl Address {
     {
         match self {
             Address::Channel(channel) => {
-                // tells that the channel is below 16
+                // says that the channel is below 16
                 channel.get();
                 1
             }
@@ -44,7 +44,7 @@ impl Address {
     }
 }
 
-/// The id of a profile, five data bytes (M2-101-UM, profile id).
+/// The id of a profile: five data bytes (M2-101-UM, profile id).
 #[derive(Clone, Copy, Debug, PartialEq, Eq)]
 pub struct ProfileId {
     pub bytes: [U7; 5],
@@ -54,7 +54,7 @@ impl ProfileId {
     ghost use Rattle.std.specs.Prelude.{◌≡◌};
     ghost use Rattle.ci_messages.specs.Fields.{IsData};
 
-    /// Returns the id as it is written in a message (M2-101-UM, profile id).
+    /// Returns the bytes of the id as they are written in a message (M2-101-UM, profile id).
     pub fn data_bytes(&self) -> [u8; 5]
         ensures value { result ≡ self.now.bytes }
         ensures data_bytes { IsData self.now.bytes }
@@ -70,17 +70,17 @@ impl ProfileId {
     }
 }
 
-/// A MIDI-CI message (M2-101-UM). It borrows its texts, lists and unread bytes from the bytes that were read.
+/// A MIDI-CI message (M2-101-UM). It borrows texts, lists and unread bytes from the bytes that were read.
 #[derive(Clone, Copy, Debug, PartialEq, Eq)]
 pub struct CiView<'a> {
     pub address: Address,
-    /// Sub-ID 2, 00 to 7F, which tells what the message is.
+    /// Sub-ID 2, 00 to 7F, which says what kind of message this is.
     pub sub: u8,
     /// The version of the message format, 00 to 7F.
     pub version: u8,
-    /// The sender's MUID, of 28 bits.
+    /// The sender's MUID, which has 28 bits.
     pub source: u32,
-    /// The receiver's MUID, of 28 bits; 0FFFFFFF is broadcast.
+    /// The receiver's MUID, which has 28 bits. 0FFFFFFF is broadcast.
     pub destination: u32,
     pub body: Body<'a>,
 }
@@ -88,21 +88,22 @@ pub struct CiView<'a> {
 impl<'a> CiView<'a> {
     ghost use Rattle.std.specs.Prelude.{◌≡◌, ◌==◌, ◌||◌};
 
-    /// Tests whether the device of this MUID sends it (M2-101-UM, MUID): its source is that MUID.
+    /// Returns whether the device with this MUID sent the message (M2-101-UM, MUID): the source is that MUID.
     pub fn is_from(&self, muid: Muid) -> bool
         ensures { result ≡ (self.now.source == muid) }
     {
         self.source == muid.get()
     }
 
-    /// Tests whether it is for all devices (M2-101-UM, MUID): its destination is 0FFFFFFF.
+    /// Returns whether the message is for all devices (M2-101-UM, MUID): the destination is 0FFFFFFF.
     pub fn is_for_all(&self) -> bool
         ensures { result ≡ (self.now.destination == 0x0FFFFFFF) }
     {
         self.destination == BROADCAST
     }
 
-    /// Tests whether it is for the device of this MUID (M2-101-UM, MUID): for that one alone, or for all.
+    /// Returns whether the message is for the device with this MUID (M2-101-UM, MUID), either for that device
+    /// alone or for all devices.
     pub fn is_for(&self, muid: Muid) -> bool
         ensures { result ≡ (self.now.destination == muid || self.now.destination == 0x0FFFFFFF) }
     {
@@ -110,17 +111,20 @@ impl<'a> CiView<'a> {
     }
 }
 
-/// What is between the destination and F7, by sub-id. A message of
+/// The bytes between the destination and F7, as fields. The sub-id says which fields there are. A message of
 /// version 02 or above has the fields of version 02.
 ///
-/// A message of version 01 has short forms of them (own rule, and no claim about an earlier edition of
-/// MIDI-CI): in a Discovery and its reply the path has no place and is 0, in the reply the block is 7F, in
-/// 22, 24 and 25 the channels are 0, and 23 has no reserved bytes; a NAK has no bytes at all, so all its
-/// numbers are 0 and its text is empty; 72 and 73 are `Other`. The body of a message of version 00 is
-/// `Other`, whatever its sub-id (own rule).
+/// A message of version 01 has short forms (own rule, and no claim about an earlier edition of MIDI-CI):
+/// - a Discovery and its reply have no path, and the path is read as 0; the reply has no block, which is read
+///   as 7F;
+/// - 22, 24 and 25 have no number of channels, which is read as 0, and 23 has no reserved bytes;
+/// - a NAK has no bytes at all, so all its numbers are read as 0 and its text is empty;
+/// - 72 and 73 are `Other`.
 ///
-/// A `u8` is a data byte, 0 to 127. A `u16` has 14 bits and a `u32`
-/// 28. Arrays and borrowed bytes are data bytes.
+/// The body of a message of version 00 is `Other`, whatever its sub-id (own rule).
+///
+/// A `u8` is a data byte, 0 to 127. A `u16` has 14 bits and a `u32` 28. Arrays and borrowed bytes are data
+/// bytes.
 #[derive(Clone, Copy, Debug, PartialEq, Eq)]
 pub enum Body<'a> {
     /// 70: Discovery.
@@ -131,13 +135,13 @@ pub enum Body<'a> {
         family: [u8; 2],
         /// The device's model within its family, the low byte first.
         model: [u8; 2],
-        /// The revision of its software.
+        /// The revision of the device's software.
         revision: [u8; 4],
-        /// The categories of MIDI-CI that it supports, a bit for each.
+        /// The categories of MIDI-CI that the device supports, one bit for each.
         category: u8,
         /// The largest System Exclusive message that the sender accepts, in bytes.
         size: u32,
-        /// The output path of the initiator.
+        /// The output path id of the initiator.
         path: u8,
     },
     /// 71: Reply to Discovery.
@@ -154,7 +158,7 @@ pub enum Body<'a> {
     },
     /// 72: Inquiry: Endpoint.
     EndpointInquiry {
-        /// What is asked for; 00 is the product instance id.
+        /// The information that is asked for. 00 is the product instance id.
         status: u8,
     },
     /// 73: Reply to Endpoint Inquiry.
@@ -169,7 +173,7 @@ pub enum Body<'a> {
     },
     /// 7F: MIDI-CI NAK.
     Nak {
-        /// The sub-id of the message that it answers.
+        /// The sub-id of the message that the NAK answers.
         original: u8,
         /// The status code.
         code: u8,
@@ -180,17 +184,17 @@ pub enum Body<'a> {
     },
     /// 20: Profile Inquiry.
     ProfileInquiry,
-    /// 21: Reply to Profile Inquiry. Both lists are ids of five bytes each.
+    /// 21: Reply to Profile Inquiry. Both lists have ids of five bytes each.
     ProfileReply {
-        /// The profiles that are on.
+        /// The profiles that are enabled.
         on: &'a [u8],
-        /// The profiles that are off.
+        /// The profiles that are disabled.
         off: &'a [u8],
     },
     /// 22: Set Profile On.
     SetOn {
         id: ProfileId,
-        /// The number of channels asked for.
+        /// The number of channels that the sender asks for.
         channels: u16,
     },
     /// 23: Set Profile Off.
@@ -200,18 +204,19 @@ pub enum Body<'a> {
     /// 24: Profile Enabled Report.
     EnabledReport {
         id: ProfileId,
-        /// The number of channels that are on.
+        /// The number of channels that are enabled.
         channels: u16,
     },
     /// 25: Profile Disabled Report.
     DisabledReport {
         id: ProfileId,
-        /// The number of channels that were on.
+        /// The number of channels that were enabled.
         channels: u16,
     },
-    /// 30 to 3F: Property Exchange, unread.
+    /// 30 to 3F: Property Exchange. The bytes aren't read further.
     Property(&'a [u8]),
-    /// Any other sub-id, 72 and 73 of version 01, and every message of version 00, unread.
+    /// Any other sub-id, 72 and 73 of version 01, and every message of version 00. The bytes aren't read
+    /// further.
     Other(&'a [u8]),
 }
 
@@ -219,8 +224,8 @@ impl<'a> Body<'a> {
     ghost use Rattle.std.specs.Prelude.{◌≡◌, ◌<◌};
     ghost use Rattle.ci_messages.specs.Messages.{body_kind, sub_of};
 
-    /// Returns the sub-id of a message with this body (M2-101-UM). `Property` and `Other` have several, and
-    /// the least is returned, 30 and 00.
+    /// Returns the sub-id of a message with this body (M2-101-UM). `Property` and `Other` stand for several
+    /// sub-ids, and the least is returned, 30 or 00.
     pub fn sub(&self) -> u8
         ensures value { result ≡ sub_of (body_kind self.now) }
         ensures data_byte { result < 128 }
@@ -244,19 +249,20 @@ impl<'a> Body<'a> {
     }
 }
 
-/// Why an exclusive is not read as a message.
+/// Says why an exclusive isn't read as a message.
 #[derive(Clone, Copy, Debug, PartialEq, Eq, Error)]
 pub enum CiFault {
-    /// It isn't universal and non-realtime (7E) and of MIDI-CI (0D), or has fewer than 6 bytes.
+    /// The exclusive isn't universal and non-realtime (7E) and for MIDI-CI (0D), or it has fewer than 6
+    /// bytes.
     #[error("the exclusive is not MIDI-CI")]
     NotCi,
-    /// It ends before its destination does, or before a field of its body does.
+    /// The exclusive ends before the destination does, or before a field of the body does.
     #[error("the message ends before its fields do")]
     Short,
-    /// Its address is none of 00 to 0F, 7E and 7F.
+    /// The address is none of 00 to 0F, 7E and 7F.
     #[error("the address is neither a channel, the group nor the function block")]
     BadAddress,
-    /// Its source is 0FFFFF00 or above: reserved, or broadcast.
+    /// The source is 0FFFFF00 or above: reserved, or broadcast.
     #[error("the source is a reserved or broadcast MUID")]
     ReservedMuid,
 }

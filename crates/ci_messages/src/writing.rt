@@ -1,4 +1,4 @@
-// From a view to the bytes of its message.
+// Writes a view as the bytes of its message.
 ghost use Rattle.std.specs.Prelude.{◌≡◌, ◌<◌, ◌≤◌, ◌+◌, ◌/◌, ◌^◌, [], ◌∷◌, ◌++◌, length, Result, IsOkAnd};
 ghost use Rattle.ci_messages.specs.declared.kind.Kind.TheVariants as kind;
 ghost use Rattle.ci_messages.specs.declared.view.CiFault.{CiFault};
@@ -43,7 +43,7 @@ fn put_four(number: u32, into: &mut Message)
     put_two(number / 16384, into);
 }
 
-// A count of items of `size` bytes each, and the items.
+// Writes the count of items of `size` bytes each, and then the items.
 fn put_counted(items: &[u8], size: usize, into: &mut Message)
     requires size { 0 < size }
     requires capacity { length into.old + 2 + length items.now ≤ 512 }
@@ -53,7 +53,7 @@ fn put_counted(items: &[u8], size: usize, into: &mut Message)
     into.extend(items);
 }
 
-// The identity of a device.
+// Writes the identity of a device.
 fn put_identity(
     manufacturer: &[u8; 3],
     family: &[u8; 2],
@@ -70,7 +70,7 @@ fn put_identity(
     into.extend(revision);
 }
 
-// The path of a Discovery, if it has a place.
+// Writes the output path id of a Discovery, if the format has that field.
 fn put_path(format: Format, path: u8, into: &mut Message)
     requires { length into.old + length (bytes_of_fields (path_in format ∷ []) (number path ∷ [])) ≤ 512 }
     ensures { into.new ≡ into.old ++ bytes_of_fields (path_in format ∷ []) (number path ∷ []) }
@@ -81,7 +81,7 @@ fn put_path(format: Format, path: u8, into: &mut Message)
     }
 }
 
-// The path and the block of a Reply to Discovery, if they have a place.
+// Writes the output path id and the block of a Reply to Discovery, if the format has these fields.
 fn put_path_and_block(format: Format, path: u8, block: u8, into: &mut Message)
     requires { length into.old + length (bytes_of_fields (path_in format ∷ block_in format ∷ [])
         (number path ∷ number block ∷ [])) ≤ 512 }
@@ -97,7 +97,7 @@ fn put_path_and_block(format: Format, path: u8, block: u8, into: &mut Message)
     }
 }
 
-// Which message a NAK answers, and why.
+// Says which message a NAK answers, and why.
 #[derive(Clone, Copy, Debug, PartialEq, Eq)]
 struct NakReason {
     original: u8,
@@ -105,7 +105,7 @@ struct NakReason {
     value: u8,
 }
 
-// The fields of a NAK, if they have a place.
+// Writes the fields of a NAK, if the format has these fields.
 fn put_nak(format: Format, reason: NakReason, details: &[u8; 5], text: &[u8], into: &mut Message)
     requires { length into.old + length (bytes_of_fields (fields_of format kind.Nak)
         (number reason.original ∷ number reason.code ∷ number reason.value
@@ -126,7 +126,7 @@ fn put_nak(format: Format, reason: NakReason, details: &[u8; 5], text: &[u8], in
     }
 }
 
-// A profile's id, and the number of channels, if it has a place.
+// Writes a profile's id, and the number of channels if the format has that field.
 fn put_switch(format: Format, id: &ProfileId, channels: u16, into: &mut Message)
     requires fits { channels < 2 ^ 14 }
     requires capacity { length into.old + length (bytes_of_fields (bytes 5 ∷ channels_in format ∷ [])
@@ -141,7 +141,7 @@ fn put_switch(format: Format, id: &ProfileId, channels: u16, into: &mut Message)
     }
 }
 
-// A profile's id, and two reserved bytes, if they have a place.
+// Writes a profile's id, and two reserved bytes if the format has them.
 fn put_set_off(format: Format, id: &ProfileId, into: &mut Message)
     requires { length into.old + length (bytes_of_fields (fields_of format kind.SetOff)
         (list id.now.bytes ∷ nothing ∷ [])) ≤ 512 }
@@ -155,7 +155,7 @@ fn put_set_off(format: Format, id: &ProfileId, into: &mut Message)
     }
 }
 
-// The fields with which a Discovery and the reply to it begin.
+// Writes the fields with which a Discovery and the reply to it begin.
 fn put_device(
     manufacturer: &[u8; 3],
     family: &[u8; 2],
@@ -268,10 +268,10 @@ fn number_of(address: Address) -> u8
 
 /// Writes the bytes of a message (M2-101-UM), from F0 to F7, into an empty list. Reserved bytes are zeros.
 ///
-/// The version is 1 to 127, the body is the one that the sub-id and version name, each number fits its bytes,
-/// borrowed bytes are data bytes, a list of profiles has five bytes for each, in version 01 the fields
-/// without a place have the values that `Body` lists, and the message has at most 512 bytes. If its source is
-/// below 0FFFFF00, it is read back as the same view.
+/// The caller ensures that the version is 1 to 127, the body is the one that the sub-id and version name,
+/// each number fits its bytes, borrowed bytes are data bytes, and a list of profiles has five bytes for each.
+/// In version 01, the fields that aren't in the message must have the values that `Body` lists. The message
+/// must have at most 512 bytes. If the source is below 0FFFFF00, the message is read back as the same view.
 pub fn write(view: &CiView<'_>, into: &mut ShortList<u8, 512>)
     requires view { IsView view.now }
     requires version { 1 ≤ view.now.version }

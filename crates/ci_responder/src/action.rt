@@ -5,9 +5,9 @@ use ci_messages::ProfileId;
 /// The action of a function block on a message that it hears (M2-101-UM).
 #[derive(Clone, Copy, Debug, PartialEq, Eq)]
 pub(crate) enum Action {
-    /// Does nothing more: the message is heard as this.
+    /// Does nothing more. The message is heard as this.
     PassOver(Heard),
-    /// Invalidates its own MUID, for all, and takes the next one.
+    /// Invalidates the block's own MUID, by a message to all, and takes the next one.
     Invalidate,
     /// Takes the next MUID.
     Move,
@@ -16,21 +16,21 @@ pub(crate) enum Action {
     TellDevice { path: u8 },
     /// Replies with the product instance id.
     TellProductId,
-    /// Replies with the profiles that are on and those that are off.
+    /// Replies with the profiles that are enabled and those that are disabled.
     TellProfiles,
-    /// Switches a profile, and reports it.
+    /// Enables or disables a profile, and reports it.
     Switch(Switch),
     /// Replies with a NAK.
     Nak,
 }
 
-/// A switch of a profile that the setup names.
+/// A request to enable or disable a profile that the setup names.
 #[derive(Clone, Copy, Debug, PartialEq, Eq)]
 pub(crate) struct Switch {
     /// The number of the profile, counted from 0 in the setup's order.
     pub(crate) number: usize,
     /// The id of the profile.
     pub(crate) id: ProfileId,
-    /// Whether it is switched on.
+    /// Whether the profile is to be enabled.
     pub(crate) on: bool,
 }

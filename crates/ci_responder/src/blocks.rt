@@ -1,4 +1,4 @@
-// The function blocks as the responder keeps them.
+// The function blocks in the form in which the responder stores them.
 ghost use Rattle.std.specs.Prelude.{◌≡◌, ◌<◌, ◌≤◌, ◌+◌, length, true, is_some, IfSome};
 ghost use Rattle.std.specs.List.{All};
 ghost use Rattle.function_blocks.specs.Blocks.{IsBlock};
@@ -18,7 +18,7 @@ use ci_messages::Muid;
 use function_blocks::Block;
 use small_types::{ShortList, U4};
 
-/// A block of the setup that has used up none of its MUIDs.
+/// Returns a block of the setup that has used up none of its MUIDs.
 pub(crate) fn kept_block(block: &Block) -> CiBlock
     requires { IsBlock block.now }
     ensures value { result ≡ kept 0 block.now }
@@ -35,7 +35,7 @@ pub(crate) fn kept_block(block: &Block) -> CiBlock
     }
 }
 
-// Whether a block has MIDI-CI, and this group.
+// Returns whether a block has MIDI-CI and contains this group.
 fn has_group(block: &CiBlock, group: u8) -> bool
     requires { IsCiBlock block.now }
     ensures { result ≡ has_group_of group block.now }
@@ -43,7 +43,7 @@ fn has_group(block: &CiBlock, group: u8) -> bool
     block.has_ci && block.first <= group && group < block.first + block.count
 }
 
-/// The number of the block of a group.
+/// Returns the number of the block that has this group, if there is one with MIDI-CI.
 pub(crate) fn block_of(blocks: &[CiBlock], group: U4) -> Option<usize>
     requires { All IsCiBlock blocks.now }
     ensures value { result ≡ block_in blocks.now group }
@@ -53,7 +53,7 @@ pub(crate) fn block_of(blocks: &[CiBlock], group: U4) -> Option<usize>
     blocks.iter().position(|block| has_group(block, number))
 }
 
-// The MUID that a block has taken last, if it has MIDI-CI and isn't silent.
+// Returns the MUID that the block uses now, if the block has MIDI-CI and isn't silent.
 fn muid_in_force(block: &CiBlock) -> Option<Muid>
     requires { IsCiBlock block.now }
     ensures value { result ≡ muid_of_block block.now }
@@ -66,7 +66,7 @@ fn muid_in_force(block: &CiBlock) -> Option<Muid>
     Muid::new(number)
 }
 
-/// The MUID in force of the block of a number, if it has MIDI-CI and isn't silent.
+/// Returns the MUID in force of the block with this number, if that block has MIDI-CI and isn't silent.
 pub(crate) fn muid_of(blocks: &[CiBlock], number: usize) -> Option<Muid>
     requires { All IsCiBlock blocks.now }
     ensures value { result ≡ muid_in blocks.now number }
@@ -78,7 +78,7 @@ pub(crate) fn muid_of(blocks: &[CiBlock], number: usize) -> Option<Muid>
     }
 }
 
-// Uses up the MUID in force.
+// Uses up the block's MUID in force.
 fn use_up(block: &mut CiBlock)
     requires { block.old.spent < 16 }
     ensures { block.new ≡ next block.old }
@@ -86,7 +86,7 @@ fn use_up(block: &mut CiBlock)
     block.spent += 1;
 }
 
-/// Uses up the MUID in force of a block.
+/// Uses up the MUID in force of block `number`.
 pub(crate) fn spend(blocks: &mut [CiBlock], number: usize)
     requires blocks { All IsCiBlock blocks.old }
     requires in_force { is_some (muid_in blocks.old number) ≡ true }

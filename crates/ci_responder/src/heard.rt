@@ -1,4 +1,4 @@
-// What a message is heard as.
+// The ways in which a message is heard.
 
 /// What a responder does with a MIDI-CI message (M2-101-UM): the first variant that applies. The order is an
 /// own rule.
@@ -8,26 +8,28 @@ pub enum Heard {
     NoBlock,
     /// The block has used up its MUIDs. Nothing is done.
     Silent,
-    /// The source is the block's own MUID. It is invalidated, and the
-    /// block takes the next of its list or becomes silent.
+    /// The message's source is the block's own MUID. The block invalidates that MUID, and takes the next of
+    /// its list or becomes silent.
     Collision,
-    /// Version 00 of the message format. Nothing is done.
+    /// The message has version 00 of the message format. Nothing is done.
     OldVersion,
-    /// The destination is neither the block's MUID nor broadcast, or
-    /// another MUID is invalidated. Nothing is done.
-    NotOurs,
-    /// The block's MUID is invalidated. It takes the next of its list or becomes silent, without a reply.
-    Moved,
-    /// Sub-ids 21, 24 to 27, 29, 71, 73, 7D and 7F: a reply, a report, an ACK or a NAK. Those of Process
-    /// Inquiry (41, 43 and 44) aren't among them, and are `Nak` if nothing before it applies (own rule).
+    /// The destination is neither the block's MUID nor broadcast, or the message invalidates another MUID.
     /// Nothing is done.
+    NotOurs,
+    /// The message invalidates the block's MUID. The block takes the next of its list or becomes silent,
+    /// without a reply.
+    Moved,
+    /// The message is a reply, a report, an ACK or a NAK: sub-ids 21, 24 to 27, 29, 71, 73, 7D and 7F.
+    /// Nothing is done. The sub-ids of Process Inquiry (41, 43 and 44) aren't among them: such messages are
+    /// `Nak` if no earlier variant applies (own rule).
     Report,
-    /// To broadcast, and not Discovery. Nothing is done.
+    /// The message is sent to broadcast and isn't Discovery. Nothing is done.
     Broadcast,
-    /// An inquiry that is answered, or a switch of a profile that the setup names there.
+    /// The message is an inquiry that the block answers, or a request to enable or disable a profile that the
+    /// setup names at the message's address.
     Answered,
-    /// Property Exchange, 30 to 3F, unread. Nothing is done.
+    /// The message is Property Exchange, 30 to 3F, whose bytes aren't read further. Nothing is done.
     Passed,
-    /// Anything else: a NAK is sent.
+    /// Anything else. The block sends a NAK.
     Nak,
 }

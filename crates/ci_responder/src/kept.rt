@@ -1,17 +1,17 @@
-// What is kept of a function block.
+// A function block in the form in which the responder stores it.
 use small_types::ShortList;
 
-/// A function block of the setup, with what MIDI-CI asks of it.
+/// A function block of the setup, with the fields that MIDI-CI needs.
 #[derive(Debug, PartialEq, Eq, Drop)]
 pub struct CiBlock {
-    /// Whether it has MIDI-CI: it is active, and names a version of it.
+    /// Whether the block has MIDI-CI: it is active, and the setup gives it a version of MIDI-CI.
     pub has_ci: bool,
-    /// Its first group, 0 to 15.
+    /// The first group, 0 to 15.
     pub first: u8,
-    /// The number of its groups; `first + count` is at most 16.
+    /// The number of groups. `first + count` is at most 16.
     pub count: u8,
-    /// The MUIDs that it takes one after the other, each below 0FFFFF00.
+    /// The MUIDs that the block uses one after the other, each below 0FFFFF00.
     pub muids: ShortList<u32, 16>,
-    /// How many of them are used up.
+    /// How many of the MUIDs are used up.
     pub spent: usize,
 }

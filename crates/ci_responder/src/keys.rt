@@ -1,16 +1,16 @@
-// The keys of profiles.
+// The keys by which profiles are found.
 use ci_messages::ProfileId;
 use function_blocks::Place;
 use std::hash::{Hash, Hasher};
 
-/// What names a profile of a setup: its function block, its place in that block, and its id.
+/// The key of a profile: its function block, its place in that block, and its id.
 #[derive(Clone, Copy, Debug)]
 pub struct Key {
     /// The number of the function block, counted from 0.
     pub block: u8,
-    /// The block itself, one of its groups, or a channel of one.
+    /// The block itself, one of its groups, or a channel of one of its groups.
     pub place: Place,
-    /// Its id (M2-101-UM, profile id).
+    /// The profile's id (M2-101-UM, profile id).
     pub id: ProfileId,
 }
 

@@ -8,42 +8,42 @@ ghost use Rattle.ci_responder.specs.Laws.{
   ViewsTellTheirBytes,
 };
 
-/// The state of a responder after any messages, of all groups, is what their history says, searched from
-/// the newest message back: the MUID in force of each block, what one more message is heard as, the reply
-/// to it, and whether each profile is on. If no two profiles have the same key, hearing one more message
-/// leads to the state of the longer history. So a switch leaves all other profiles as they were, and a
-/// change of MUID leaves all of them.
+/// After any messages on any groups, the state of a responder is the one that the definition finds by
+/// searching the history of these messages, from the newest back. This holds for the MUID in force of each
+/// block, for how one more message is heard, for the reply to that message, and for whether each profile is
+/// enabled. If no two profiles have the same key, hearing one more message leads to the state of the longer
+/// history.
 pub fn held_is_the_history()
     ensures { HeldIsTheHistory }
 {}
 
-/// A switch that is accepted leaves each profile of another key as it was.
+/// If a block enables or disables a profile, all profiles with other keys stay as they were.
 pub fn switches_stand_alone()
     ensures { SwitchesStandAlone }
 {}
 
-/// The block of a group, by which the history says which block hears a message, is an active block with
-/// MIDI-CI that has the group. If no two of them share a group, as in each setup, it is the only one, and
-/// there is none only if no block has it.
+/// The definition of the history says which block hears a message: the block of the message's group. That
+/// block is active, has MIDI-CI and contains the group. If no two active blocks with MIDI-CI share a group,
+/// as in every setup, it is the only such block, and the definition finds it whenever there is one.
 pub fn block_of_a_group_is_the_one()
     ensures { BlockOfIsTheOne }
 {}
 
-/// What a view of a message says is a function of the message's bytes and its group, by the places of
-/// M2-101-UM.
+/// The definitions see a message as its bytes and group say, by the positions of M2-101-UM. Any view that the
+/// bytes spell gives the same.
 pub fn views_tell_their_bytes()
     ensures { ViewsTellTheirBytes }
 {}
 
-/// A responder stays one of its setup, so that it can begin again with it: hearing a message uses up MUIDs
-/// and switches profiles, and changes nothing else.
+/// After hearing a message, a responder still belongs to its setup and keeps its limit, so that `reset` can
+/// be called with that setup.
 pub fn responders_stay_of_their_setup()
     ensures { StaysOfItsSetup }
 {}
 
-/// The rows of a message stand in their order: a message from the block's own MUID is a collision, whatever
-/// its version, and any other of version 00 is an old one; and each of some worked messages, to which two
-/// rows apply, is heard as the first of them.
+/// The rows for messages are tried in their order. A message from the block's own MUID is a collision,
+/// whatever its version, and any other message of version 00 is heard as an old version. Each of some worked
+/// messages is heard as the first row that applies to it.
 pub fn rows_stand_in_their_order()
     ensures order { RowsInOrder }
     ensures worked { WorkedRows }

@@ -1,4 +1,8 @@
-//! A responder of MIDI-CI for the function blocks of a setup: MUIDs, discovery and profiles.
+//! Answers MIDI-CI messages for the function blocks of a setup: MUIDs, discovery and profiles.
+//!
+//! Start with [`Responder`]: `new` allocates, and `hear` takes one message that `ci_messages::read` returned,
+//! writes the packets of the reply and returns a [`Heard`], which says what the block did. A [`Key`] names a
+//! profile.
 #![tactic(auto)]
 
 mod action;

@@ -1,4 +1,4 @@
-// Messages that are sent.
+// Messages to send.
 ghost use Rattle.std.specs.Prelude.{◌≡◌, ◌<◌, ◌≤◌, length};
 ghost use Rattle.ci_messages.specs.Writing.{IsView};
 ghost use Rattle.ci_responder.specs.Replies.{IsMessage, message_of_payload, payload_of};
@@ -8,8 +8,8 @@ use ci_messages::{CiView, write};
 use small_types::ShortList;
 use std::marker::Model;
 
-/// A message of MIDI-CI from F0 to F7 (M2-101-UM), of at most 344 bytes, that `ci_messages::read` takes. A
-/// contract sees its bytes.
+/// A MIDI-CI message from F0 to F7 (M2-101-UM), which has at most 344 bytes and which `ci_messages::read`
+/// accepts. In contracts its value is the bytes.
 #[derive(Debug, Drop)]
 pub struct CiMessage {
     bytes: ShortList<u8, 512>,
@@ -27,8 +27,8 @@ impl Model for CiMessage {
 }
 
 impl CiMessage {
-    /// Writes a message of version 01 or above (M2-101-UM), whose source is below 0FFFFF00, of at most 342
-    /// bytes between F0 and F7.
+    /// Writes a message of version 01 or above (M2-101-UM). The source must be below 0FFFFF00, and there must
+    /// be at most 342 bytes between F0 and F7.
     pub fn new(view: &CiView<'_>) -> CiMessage
         requires view { IsView view.now }
         requires version { 1 ≤ view.now.version }
@@ -42,7 +42,7 @@ impl CiMessage {
         CiMessage { bytes }
     }
 
-    /// Returns its bytes, from F0 to F7 (M2-101-UM).
+    /// Returns the bytes of the message, from F0 to F7 (M2-101-UM).
     pub fn as_slice(&self) -> &[u8]
         ensures value { result.now ≡ self.now }
         ensures message { IsMessage result.now }

@@ -1,4 +1,4 @@
-// What a responder keeps of a setup.
+// Creates the state of a responder from a setup.
 ghost use Rattle.std.specs.Prelude.{◌≡◌, ◌≤◌, [], ◌∷◌, ◌++◌, None, length, IfOk, OnOk};
 ghost use Rattle.std.specs.List.{All};
 ghost use Rattle.function_blocks.specs.Blocks.{IsBlock};
@@ -27,7 +27,7 @@ fn add_block(blocks: &mut Vec<CiBlock>, block: &Block) -> Result<(), NoMemory>
     }
 }
 
-/// The blocks of the setup, by number.
+/// Returns the blocks of the setup, by number.
 pub(crate) fn kept_blocks(alloc: Global, setup: &Setup) -> Result<Vec<CiBlock>, NoMemory>
     ensures value { IfOk result (λ blocks.
         blocks.items ≡ kept_from 0 (spent_at setup.now []) setup.now.blocks) }
@@ -64,7 +64,7 @@ fn add(states: &mut IndexMap<Key, bool>, profile: &Profile) -> Result<(), NoMemo
     }
 }
 
-/// The profiles of the setup, in its order.
+/// Returns the profiles of the setup, in the order of the setup.
 pub(crate) fn first_states(alloc: Global, setup: &Setup) -> Result<IndexMap<Key, bool>, NoMemory>
     ensures value { IfOk result (λ states. states.entries ≡ first_states_of setup.now.profiles) }
     ensures few { IfOk result (λ states. length states.entries ≤ 64) }

@@ -1,4 +1,4 @@
-// Messages cut into packets.
+// Cuts messages into packets.
 ghost use Rattle.std.specs.Prelude.{◌≡◌, ◌≤◌, ℕ, List, [], length};
 ghost use Rattle.ump_grammar.specs.Replies.{AddsPackets};
 ghost use Rattle.ci_messages.specs.Fields.{IsData};
@@ -9,7 +9,7 @@ use small_types::U4;
 use sysex_groups::part;
 use ump_grammar::{Packet, Replies};
 
-// Adds the packets of a payload to replies that are empty.
+// Adds the packets of a payload to `replies`, which is empty.
 fn push_payload(replies: &mut Replies, group: U4, payload: &[u8])
     requires empty { replies.old ≡ [] }
     requires fits { length payload.now ≤ 342 }
@@ -17,7 +17,7 @@ fn push_payload(replies: &mut Replies, group: U4, payload: &[u8])
     ensures packets { AddsPackets (packets_of group payload.now) [] replies.new }
     ensures few { length replies.new ≤ 114 }
 {
-    // shows the prover that the group is below 16
+    // says that the group is below 16
     group.get();
     let mut k = 0;
     while let Some((form, bytes)) = part(payload, k) {
@@ -26,8 +26,8 @@ fn push_payload(replies: &mut Replies, group: U4, payload: &[u8])
     }
 }
 
-/// Adds the packets of a message to replies that are empty, cut every
-/// six bytes (M2-104-UM, system exclusive 7-bit messages).
+/// Adds the packets of a message to `replies`, which is empty. Each packet has six bytes, and the last may
+/// have fewer (M2-104-UM, system exclusive 7-bit messages).
 pub(crate) fn push_message(replies: &mut Replies, group: U4, message: &CiMessage)
     requires { replies.old ≡ [] }
     ensures packets { (payload : List ℕ) → message.now ≡ message_of_payload payload →

@@ -17,7 +17,7 @@ use indexmap::IndexMap;
 use small_types::ShortList;
 use voice_messages::U4;
 
-/// The place of an address (M2-101-UM, device id).
+/// Returns the place of an address (M2-101-UM, device id).
 pub(crate) fn place_of(address: Address, group: U4) -> Place
     ensures { result ≡ place_at address group }
 {
@@ -28,14 +28,15 @@ pub(crate) fn place_of(address: Address, group: U4) -> Place
     }
 }
 
-/// Whether a profile is on; `None` exactly if the setup doesn't name it.
+/// Returns whether a profile is enabled, or `None` exactly if the setup doesn't name the profile.
 pub(crate) fn state(states: &IndexMap<Key, bool>, key: &Key) -> Option<bool>
     ensures { result ≡ state_in states.now.entries key.now }
 {
     states.get(key).copied()
 }
 
-/// The number of the first profile of a key, counted from 0; `None` exactly if the setup doesn't name it.
+/// Returns the number of the first profile with this key, counted from 0, or `None` exactly if the setup
+/// doesn't name the profile.
 pub(crate) fn number_of(states: &IndexMap<Key, bool>, key: &Key) -> Option<usize>
     ensures named { is_some result ≡ is_some (state_in states.now.entries key.now) }
     ensures first { IfSome result (λ number. IsFirstOf key.now states.now.entries number) }
@@ -43,7 +44,7 @@ pub(crate) fn number_of(states: &IndexMap<Key, bool>, key: &Key) -> Option<usize
     states.get_index_of(key)
 }
 
-/// Switches the profile of a number. All others stay.
+/// Enables or disables the profile of this number. All other profiles stay as they are.
 pub(crate) fn set(states: &mut IndexMap<Key, bool>, number: usize, on: bool)
     requires { (key : Key) × IsFirstOf key states.old.entries number }
     ensures value { (key : Key) → IsFirstOf key states.old.entries number →
@@ -53,21 +54,21 @@ pub(crate) fn set(states: &mut IndexMap<Key, bool>, number: usize, on: bool)
     states[number] = on;
 }
 
-// Whether a profile stands at this place of this block.
+// Returns whether a profile belongs to this block and applies at this place.
 fn is_at(key: &Key, block: u8, place: &Place) -> bool
     ensures { result ≡ (key.now.block == block && same_place key.now.place place.now) }
 {
     key.block == block && key.place == *place
 }
 
-/// The ids of the profiles of one place, each of five bytes.
+/// The ids of the profiles at one place, each of five bytes.
 #[derive(Debug, PartialEq, Eq, Drop)]
 pub(crate) struct Ids {
     pub(crate) on: ShortList<u8, 320>,
     pub(crate) off: ShortList<u8, 320>,
 }
 
-// Adds the id of a profile that stands at this place of this block.
+// Adds the id of a profile if the profile belongs to this block and applies at this place.
 fn add_listed(ids: &mut Ids, key: &Key, on: bool, block: u8, place: &Place)
     requires { length ids.old.on + length ids.old.off + 5 ≤ 320 }
     ensures on { ids.new.on ≡ ids.old.on ++ listed true block place.now (key.now, on) }
@@ -89,8 +90,8 @@ fn add_listed(ids: &mut Ids, key: &Key, on: bool, block: u8, place: &Place)
     }
 }
 
-/// The ids of the profiles of a block and place, those that are on
-/// and those that are off, in the setup's order.
+/// Returns the ids of the profiles of a block and place, those that are enabled and those that are disabled,
+/// each in the order of the setup.
 pub(crate) fn ids_at(states: &IndexMap<Key, bool>, block: u8, place: &Place) -> Ids
     requires { length states.now.entries ≤ 64 }
     ensures on { result.on ≡ ids_of true block place.now states.now.entries }

@@ -31,7 +31,7 @@ use ci_messages::{
 };
 use function_blocks::Identity;
 
-// The version of the reply to a message: 01 to a message of version 01, and otherwise 02 (own rule).
+// Returns the version of the reply: 01 for a message of version 01, otherwise 02 (own rule).
 fn reply_version(view: &CiView<'_>) -> u8
     ensures value { result ≡ reply_version_of (viewed_message view.now) }
     ensures least { 1 ≤ result }
@@ -43,7 +43,7 @@ fn reply_version(view: &CiView<'_>) -> u8
     }
 }
 
-// A number in a message of a version, or `otherwise` if version 01 has no place for it.
+// Returns the value of a field, or `otherwise` if messages of version 01 don't have that field.
 fn placed(version: u8, value: u8, otherwise: u8) -> u8
     requires { value < 128 }
     ensures fits { FitsField (full_only (format_of version) byte (number otherwise)) (number result) }
@@ -56,8 +56,8 @@ fn placed(version: u8, value: u8, otherwise: u8) -> u8
     }
 }
 
-// The number of channels in a report: that of its address, and 0 if version 01 has no place for it (own
-// rule).
+// Returns the number of channels for a report: that of the address, or 0 if messages of version 01 don't have
+// that field (own rule).
 fn channels_told(version: u8, address: Address) -> u16
     ensures fits { FitsField (channels_in (format_of version)) (number result) }
     ensures bytes { bytes_of_field (channels_in (format_of version)) (number result)
@@ -69,7 +69,7 @@ fn channels_told(version: u8, address: Address) -> u16
     }
 }
 
-// The body of a report that a profile is on, or that it is off.
+// Returns the body of a report that a profile is enabled or disabled.
 fn report_of(id: ProfileId, channels: u16, on: bool) -> Body<'static>
     ensures { result ≡ (if on then body.EnabledReport id channels else body.DisabledReport id channels) }
 {
@@ -81,7 +81,7 @@ fn report_of(id: ProfileId, channels: u16, on: bool) -> Body<'static>
 }
 
 impl Responder {
-    /// An Invalidate MUID for the block's own MUID, at address 7F, to broadcast (M2-101-UM).
+    /// Creates an Invalidate MUID message for the block's own MUID, at address 7F, to broadcast (M2-101-UM).
     pub(crate) fn invalidate(&self, owner: &Owner, view: &CiView<'_>) -> CiMessage
         ensures { result ≡ message_of_payload
             (invalidation (sender_of self.now owner.now.block owner.now.muid) (viewed_message view.now)) }
@@ -100,7 +100,7 @@ impl Responder {
         })
     }
 
-    /// A NAK at the message's address: its sub-id, and nine zero bytes (M2-101-UM).
+    /// Creates a NAK at the message's address, with the message's sub-id and nine zero bytes (M2-101-UM).
     pub(crate) fn nak(&self, owner: &Owner, view: &CiView<'_>) -> CiMessage
         requires { IsView view.now }
         ensures { result ≡ message_of_payload
@@ -125,8 +125,9 @@ impl Responder {
         })
     }
 
-    /// The reply to a Discovery, at address 7F: the identity of the device, the category of profiles, the
-    /// room, the path and the number of the block (M2-101-UM).
+    /// Creates the reply to a Discovery, at address 7F (M2-101-UM). It has the identity of the device, the
+    /// category of profiles, the largest System Exclusive message that the responder accepts, the path and
+    /// the block's number.
     pub(crate) fn tell_device(&self, owner: &Owner, view: &CiView<'_>, path: u8) -> CiMessage
         requires view { IsView view.now }
         requires path { path < 128 }
@@ -163,8 +164,8 @@ impl Responder {
         })
     }
 
-    /// The reply to an inquiry of the endpoint, at its address: the product instance id (M2-101-UM).
-    /// Version 01 doesn't have this inquiry.
+    /// Creates the reply to an inquiry of the endpoint, at the same address: the product instance id
+    /// (M2-101-UM). Version 01 doesn't have this inquiry.
     pub(crate) fn tell_product_id(&self, owner: &Owner, view: &CiView<'_>) -> CiMessage
         requires view { IsView view.now }
         requires version { (view.now.version == 1) ≡ false }
@@ -187,8 +188,8 @@ impl Responder {
         })
     }
 
-    /// The reply to an inquiry of profiles, at its address: the profiles of exactly that place, those on
-    /// and those off (M2-101-UM).
+    /// Creates the reply to an inquiry of profiles, at the same address (M2-101-UM). It has the profiles of
+    /// exactly that place, those that are enabled and those that are disabled.
     pub(crate) fn tell_profiles(&self, owner: &Owner, view: &CiView<'_>) -> CiMessage
         requires { IsView view.now }
         ensures { Some result ≡ message_of_reply
@@ -212,7 +213,8 @@ impl Responder {
         })
     }
 
-    /// A report at the message's address, to broadcast, that a profile is on or off (M2-101-UM).
+    /// Creates a report at the message's address, to broadcast, that a profile is enabled or disabled
+    /// (M2-101-UM).
     pub(crate) fn report(
         &self,
         owner: &Owner,
@@ -225,7 +227,7 @@ impl Responder {
             (reply_row (sender_of self.now owner.now.block owner.now.muid)
             (received_of owner.now.group view.now) (switch id on)) }
     {
-        // shows the prover that the id is five data bytes
+        // says that the id is five data bytes
         id.data_bytes();
         let version = reply_version(view);
         let channels = channels_told(version, view.address);

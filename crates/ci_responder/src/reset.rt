@@ -1,4 +1,4 @@
-// A responder as it was at first.
+// Returns a responder to the state in which it was created.
 ghost use Rattle.std.specs.Prelude.{◌≡◌, map};
 ghost use Rattle.std.specs.List.{All};
 ghost use Rattle.std.specs.Map.{keys_of};
@@ -11,7 +11,7 @@ use crate::keys::Key;
 use function_blocks::Profile;
 use indexmap::IndexMap;
 
-/// Gives each block all its MUIDs again.
+/// Makes all MUIDs of each block available again.
 pub(crate) fn reset_blocks(blocks: &mut [CiBlock])
     requires { All IsCiBlock blocks.old }
     ensures value { blocks.new ≡ map unspent blocks.old }
@@ -22,7 +22,7 @@ pub(crate) fn reset_blocks(blocks: &mut [CiBlock])
     }
 }
 
-/// Switches each profile on or off as the setup has it.
+/// Enables or disables each profile as the setup says.
 pub(crate) fn reset_states(states: &mut IndexMap<Key, bool>, profiles: &[Profile])
     requires { keys_of states.old.entries ≡ map key_of profiles.now }
     ensures { states.new.entries ≡ first_states profiles.now }

@@ -40,8 +40,8 @@ use std::alloc::Global;
 use std::marker::Model;
 use ump_grammar::Replies;
 
-/// Answers the MIDI-CI messages for the function blocks of a setup (M2-101-UM). A contract sees its state:
-/// for each block how many of its MUIDs are used up, and for each profile whether it is on.
+/// Answers MIDI-CI messages for the function blocks of a setup (M2-101-UM). In contracts its value is the
+/// number of used-up MUIDs for each block, and for each profile whether it is enabled.
 #[derive(Drop)]
 pub struct Responder {
     blocks: Vec<CiBlock>,
@@ -74,9 +74,10 @@ impl Model for Responder {
 }
 
 impl Responder {
-    /// Makes a responder that has used up no MUID, with its profiles as the setup has them (M2-101-UM).
-    /// `room` is the most bytes of a System Exclusive message that it reports to take, 6 to 1,048,576. The
-    /// call takes all memory that the responder ever takes. `NoMemory` is returned if there isn't that much.
+    /// Creates a responder that has used up no MUID, with the profiles as the setup has them (M2-101-UM).
+    /// `room` is the largest System Exclusive message that the responder says it accepts, 6 to 1,048,576
+    /// bytes. Allocates all the memory that the responder will ever need. Returns `NoMemory` if there isn't
+    /// enough.
     pub fn new(alloc: Global, setup: &Setup, room: u32) -> Result<Responder, NoMemory>
         requires least { 6 ≤ room }
         requires most { room ≤ 1048576 }
@@ -95,9 +96,9 @@ impl Responder {
         })
     }
 
-    /// Returns to the state in which `new` makes the responder with the same setup and room (own rule): no
-    /// MUID is used up, and each profile is on or off as the setup has it. The setup must be the one of
-    /// which the responder was made. The call takes no memory.
+    /// Returns the responder to the state in which `new` creates it with the same setup and `room` (own
+    /// rule): no MUID is used up, and each profile is enabled or disabled as the setup says. `setup` must be
+    /// the one that was passed to `new`. The call doesn't allocate.
     pub fn reset(&mut self, setup: &Setup)
         requires { IsOf setup.now self.old }
         ensures { self.new ≡ responder_at setup.now self.old.room [] }
@@ -106,9 +107,9 @@ impl Responder {
         reset_states(&mut self.states, setup.profiles());
     }
 
-    /// Returns the MUID in force of a function block, counted from 0 (M2-101-UM, MUID); it is below 0FFFFF00.
-    /// Returns `None` exactly if the block has no MIDI-CI or has used up its MUIDs, or if there is no such
-    /// block.
+    /// Returns the MUID in force of a function block, counted from 0 (M2-101-UM, MUID). The MUID is below
+    /// 0FFFFF00. Returns `None` exactly if there is no such block, or if it has no MIDI-CI or has used up its
+    /// MUIDs.
     pub fn muid(&self, block: u8) -> Option<u32>
         ensures value { result ≡ muid_in self.now.blocks block }
         ensures fits { IfSome result (λ muid. muid < 0x0FFFFF00) }
@@ -119,17 +120,17 @@ impl Responder {
         }
     }
 
-    /// Returns whether a profile is on (M2-101-UM, profile configuration), or `None` exactly if the setup
-    /// doesn't name it.
+    /// Returns whether a profile is enabled (M2-101-UM, profile configuration), or `None` exactly if the
+    /// setup doesn't name the profile.
     pub fn profile_is_on(&self, key: &Key) -> Option<bool>
         ensures { result ≡ state_in self.now.states key.now }
     {
         state(&self.states, key)
     }
 
-    /// Hears a message that `ci_messages::read` returned, on its group (M2-101-UM), and adds the packets of
-    /// the reply to `replies`, which is empty. The reply goes out on the same group, and has at most 114
-    /// words. Returns what the block did with the message. The call takes no memory.
+    /// Hears a message that `ci_messages::read` returned, on the message's group (M2-101-UM). Adds the
+    /// packets of the reply to `replies`, which is empty. The reply is for the same group and has at most 114
+    /// words. Returns what the block did with the message. The call doesn't allocate.
     pub fn hear(&mut self, group: U4, view: &CiView<'_>, replies: &mut Replies) -> Heard
         requires view { IsView view.now }
         requires empty { replies.old ≡ [] }
@@ -145,8 +146,8 @@ impl Responder {
         heard
     }
 
-    /// Hears a message as `hear` does (M2-101-UM). Returns what the block did with it, and the reply as a
-    /// message, which goes out on the same group; `None` if there is no reply.
+    /// Hears a message as `hear` does (M2-101-UM). Returns what the block did with the message, and the reply
+    /// as a message for the same group, or `None` if there is no reply.
     pub fn hear_message(&mut self, group: U4, view: &CiView<'_>) -> (Heard, Option<CiMessage>)
         requires { IsView view.now }
         ensures heard { result.0 ≡ heard_in self.old (received_of group view.now) }
@@ -168,7 +169,7 @@ impl Responder {
         self.act(&owner, view, action)
     }
 
-    // The block takes the next MUID of its list, or becomes silent.
+    // Uses up the block's MUID, so that the block takes the next of its list or becomes silent.
     fn take_next_muid(&mut self, owner: &Owner)
         requires { is_some (muid_in self.old.blocks owner.now.block) ≡ true }
         ensures { self.new ≡ record self.old { blocks = change_at next owner.now.block self.old.blocks } }
@@ -176,7 +177,7 @@ impl Responder {
         spend(self.blocks.as_mut_slice(), owner.block as usize);
     }
 
-    // Carries out an action, and returns what the message is heard as, with the reply.
+    // Carries out an action. Returns how the message is heard, and the reply.
     fn act(
         &mut self,
         owner: &Owner,

@@ -1,4 +1,4 @@
-// What is done with a message, by its row.
+// Decides what is done with a message.
 ghost use Rattle.std.specs.Prelude.{◌≡◌, ◌==◌, false};
 ghost use Rattle.ci_messages.specs.Writing.{IsView};
 ghost use Rattle.ci_responder.specs.ForProofs.Actions.{IsSwitchOf, Suits, heard_of};
@@ -18,8 +18,8 @@ use crate::profiles::{number_of, place_of};
 use crate::responder::Responder;
 use ci_messages::{Body, CiView, ProfileId};
 
-// Whether this is the sub-id of a reply, a report, an ACK or a NAK,
-// Process Inquiry's replies apart (own rule).
+// Returns whether this is the sub-id of a reply, a report, an ACK or a NAK, other than the replies of Process
+// Inquiry (own rule).
 fn is_report(sub: u8) -> bool
     ensures { result ≡ is_report_of sub }
 {
@@ -27,7 +27,7 @@ fn is_report(sub: u8) -> bool
 }
 
 impl Responder {
-    /// The action of a block on a message: the first of these that applies.
+    /// Returns the action of a block on a message: the first that applies.
     pub(crate) fn action(&self, owner: &Owner, view: &CiView<'_>) -> Action
         requires { IsView view.now }
         ensures heard { heard_of result ≡ heard_row owner.now.muid
@@ -46,8 +46,7 @@ impl Responder {
         }
     }
 
-    // The action on a message that is for the block, and not of version 00: the first of these that
-    // applies.
+    // Returns the action on a message that is for the block and isn't of version 00: the first that applies.
     fn action_by_body(&self, owner: &Owner, view: &CiView<'_>) -> Action
         requires view { IsView view.now }
         requires version { (view.now.version == 0) ≡ false }
@@ -78,8 +77,8 @@ impl Responder {
         }
     }
 
-    // The switch of the profile with this id at the place of the message's address in the block; a NAK if
-    // the setup doesn't name it.
+    // Returns the action for a request to enable or disable the profile with this id, at the place of the
+    // message's address in the block. The action is a NAK if the setup doesn't name that profile.
     fn switch_of(&self, owner: &Owner, view: &CiView<'_>, id: &ProfileId, on: bool) -> Action
         ensures { IsSwitchOf self.now.states
             (key_at owner.now.block (received_of owner.now.group view.now) id.now) on result }

@@ -1,5 +1,7 @@
-//! Text shared by commands that print MIDI-CI lines: the word for what a responder did with a message, and
+//! Writes the MIDI-CI text that several commands share: the word for what a responder did with a message, and
 //! the lines for a setup's profiles.
+//!
+//! Start with [`name_of_heard`] and [`put_profiles`].
 #![tactic(auto)]
 
 mod names;

@@ -1,11 +1,11 @@
-// What a line says of a message that a responder heard.
+// The word for what a responder did with a message.
 ghost use Rattle.std.specs.Prelude.{◌≡◌};
 ghost use Rattle.ci_text.specs.Names.{name_of_heard as name_of};
 
 use ci_responder::Heard;
 use endpoint_lines::OutcomeName;
 
-/// What the line of a message says that a responder heard so (own rule).
+/// Returns the word with which a line says how a responder heard a message (own rule).
 pub fn name_of_heard(heard: Heard) -> OutcomeName
     ensures { result ≡ name_of heard }
 {

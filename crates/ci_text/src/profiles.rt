@@ -1,4 +1,4 @@
-// The lines of the profiles of a setup.
+// The lines for the profiles of a setup.
 ghost use Rattle.std.specs.Prelude.{◌≡◌, ◌<◌, Bool, [], ◌∷◌, Option, length, unwrap_or};
 ghost use Rattle.ci_responder.specs.Keys.{key_of, state_in};
 ghost use Rattle.ci_responder.specs.declared.keys.Key.{Key};
@@ -10,21 +10,21 @@ use endpoint_lines::profile_line;
 use function_blocks::{Profile, Setup};
 use pass_loop::{Outputs, RunEnd};
 
-/// The place in which a line is put.
+/// The place to which a line is written.
 #[derive(Clone, Copy, Debug, PartialEq, Eq)]
 pub enum LinePlace {
-    /// In the output, among what the command puts there.
+    /// The output, among the other lines of the command.
     Output,
-    /// In the notes, among the lines of the listing.
+    /// The notes, among the lines of the listing.
     Notes,
 }
 
-/// Tells which profiles are on.
+/// Says which profiles are enabled.
 pub trait ProfileStates {
-    /// Whether a profile is on, by its key, if that is known.
+    /// Whether a profile is enabled, by its key, if that is known.
     ghost states: { Self → Key → Option Bool };
 
-    /// Whether the profile with this key is on; `None` if that isn't known.
+    /// Returns whether the profile with this key is enabled, or `None` if that isn't known.
     fn profile_is_on(&self, key: &Key) -> Option<bool>
         ensures { result ≡ states self.now key.now };
 }
@@ -37,7 +37,7 @@ impl ProfileStates for Responder {
     }
 }
 
-// Whether a profile is on: as the setup says, if nothing else is known.
+// Returns whether a profile is enabled: as `known` says or, if it doesn't know, as the setup says.
 fn is_on<P: ProfileStates>(known: &P, profile: &Profile) -> bool
     ensures { result ≡ unwrap_or (P.states known.now (key_of profile.now)) profile.now.on }
 {
@@ -50,7 +50,7 @@ fn is_on<P: ProfileStates>(known: &P, profile: &Profile) -> bool
     known.profile_is_on(&key).unwrap_or(profile.on)
 }
 
-// Puts a line, which isn't empty, in the output or in the notes.
+// Writes a line, which isn't empty, to the output or to the notes.
 fn put_line<O: Outputs>(place: LinePlace, line: &[u8], outputs: &mut O) -> Result<(), RunEnd>
     requires { 0 < length line.now }
     ensures { Puts (put_at place line.now ∷ []) (O.places outputs.old) (O.places outputs.new) result }
@@ -61,7 +61,7 @@ fn put_line<O: Outputs>(place: LinePlace, line: &[u8], outputs: &mut O) -> Resul
     }
 }
 
-// Puts the line of a profile.
+// Writes the line for a profile.
 fn put_profile<P: ProfileStates, O: Outputs>(
     known: &P,
     profile: &Profile,
@@ -75,9 +75,9 @@ fn put_profile<P: ProfileStates, O: Outputs>(
     put_line(place, line.as_slice(), outputs)
 }
 
-/// Puts the line of each profile of a setup, in its order: whether it is on, as `known` tells, else as the
-/// setup says (own rule). An `Err` is the fault of the place, `OutputFault` or `NoteFault`, and comes only
-/// if the place's count of faults rose.
+/// Writes the line for each profile of a setup, in the order of the setup. The line says whether the profile
+/// is enabled, as `known` says or, if it doesn't know, as the setup says (own rule). The error is the fault
+/// of the place, `OutputFault` or `NoteFault`, and is returned only if the place's count of faults rose.
 pub fn put_profiles<P: ProfileStates, O: Outputs>(
     setup: &Setup,
     known: &P,

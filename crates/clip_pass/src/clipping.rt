@@ -1,4 +1,4 @@
-// From a clip file to the lines of its events.
+// Shows a clip file as the lines of its events.
 ghost use Rattle.std.specs.Prelude.{◌≡◌, ◌≤◌, ◌^◌, [], ◌∷◌};
 ghost use Rattle.ump_words.specs.declared.words.Order.TheVariants.{Big};
 ghost use Rattle.midi_clip.specs.Roles.{role_of};
@@ -21,17 +21,20 @@ use text_lines::Line;
 use ump_grammar::Packet;
 use ump_words::{Framed, Order, WordReader};
 
-/// Shows the events of a clip file, to its end or to the first refusal: puts in the output a line for the
-/// ticks for a quarter note when the clip starts, the ticks and the line of the packet for each event, and a
-/// line for the ticks at the end of the clip. A clip file is the eight bytes `SMF2CLIP` and packets whose
+/// Shows the events of a clip file, to its end or to the first refusal. Writes lines to the output: one for
+/// the ticks for a quarter note when the clip starts, one for each event with its ticks and its packet, and
+/// one for the ticks at the end of the clip. A clip file is the eight bytes `SMF2CLIP` and packets whose
 /// words have their most significant byte first (own rule; M2-104-UM, Delta Clockstamps, Start of Clip and
-/// End of Clip). Takes no memory.
+/// End of Clip). The call doesn't allocate.
 ///
-/// `Refused` comes for `NotClip`, at 0, if the input doesn't begin with the header; for `Truncated`,
-/// `InputTooLong`, `BadCount`, `HighBit`, `NoResolution` and `AfterEnd`, with the number of bytes before what
-/// is refused, those of the header among them; and for `NoEnd`, with the number of all bytes, if the input
-/// ends before the clip. `ReadFault` and `OutputFault` come only if the count of that object rose. The
-/// lanes and the notes are unchanged.
+/// Returns `Refused`
+/// - for `NotClip`, at offset 0, if the input doesn't begin with the header;
+/// - for `Truncated`, `InputTooLong`, `BadCount`, `HighBit`, `NoResolution` and `AfterEnd`, with the number
+///   of bytes before the packet or end that is refused, including those of the header;
+/// - for `NoEnd`, with the number of all bytes, if the input ends before the clip.
+///
+/// Returns `ReadFault` or `OutputFault` only if the fault count of that object rose. The lanes and the notes
+/// are unchanged.
 pub fn run_clip<S: Source, L: Lanes, W: Sink, N: Sink>(
     input: &mut S,
     lanes: &mut L,
@@ -57,7 +60,7 @@ pub fn run_clip<S: Source, L: Lanes, W: Sink, N: Sink>(
     show_clip(input, &mut outputs)
 }
 
-// The same into places that are told together.
+// Does the same as `run_clip`, for places that are given as one value.
 fn show_clip<S: Source, O: Outputs>(input: &mut S, outputs: &mut O) -> RunEnd
     ensures { ClipEnds
         (seen_with S.Source input.old (O.places outputs.old))
@@ -76,7 +79,7 @@ fn show_clip<S: Source, O: Outputs>(input: &mut S, outputs: &mut O) -> RunEnd
     }
 }
 
-// Shows the events of a clip file of which the header is read.
+// Shows the events of a clip file after its header is read.
 fn show_packets<S: Source, O: Outputs>(
     mut words: WordReader,
     mut clip: Clip,
@@ -90,7 +93,7 @@ fn show_packets<S: Source, O: Outputs>(
         (seen_with S.Source input.new (O.places outputs.new)) result }
 {
     clips_are_the_definition();
-    // How many bytes there are up to here.
+    // The number of bytes so far.
     let mut size = HEADER_SIZE;
     let mut line = Line::new();
     loop {
@@ -118,7 +121,7 @@ fn show_packets<S: Source, O: Outputs>(
     }
 }
 
-// Writes out what was put before the next packet has to be read.
+// Writes out what is buffered before the next packet has to be read.
 #[inline(always)]
 fn write_out_before<S: Source, O: Outputs>(words: &WordReader, input: &S, outputs: &mut O)
     ensures { O.places outputs.new ≡ O.places outputs.old }
@@ -128,7 +131,7 @@ fn write_out_before<S: Source, O: Outputs>(words: &WordReader, input: &S, output
     }
 }
 
-// The reason for a packet that is no part of a clip.
+// Returns the reason for a packet that is no part of a clip.
 fn reason(fault: ClipFault) -> Reason
     ensures { result ≡ reason_of fault }
 {
@@ -139,7 +142,7 @@ fn reason(fault: ClipFault) -> Reason
     }
 }
 
-// Takes one more packet, and puts its result, as a line made in the place of the one before.
+// Handles one more packet, and writes its result as a line over the one before.
 #[inline(always)]
 fn take_packet<O: Outputs>(
     clip: &mut Clip,
@@ -163,7 +166,7 @@ fn take_packet<O: Outputs>(
     }
 }
 
-// Puts the result of a packet, as a line made in the place of the one before.
+// Writes the result of a packet, as a line over the one before.
 #[inline(always)]
 fn put_step<O: Outputs>(
     step: ClipStep,

@@ -1,4 +1,6 @@
-//! The pass over a clip file: its events, each at its ticks.
+//! Runs the command `clip` over a whole clip file: shows the events, each at its time in ticks.
+//!
+//! Start with [`run_clip`].
 #![tactic(auto)]
 
 mod clipping;

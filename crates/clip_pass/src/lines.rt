@@ -7,7 +7,7 @@ use text_lines::{Line, put_decimal, put_packet_line, put_text};
 use ump_grammar::Packet;
 use ump_words::Framed;
 
-/// Makes the line that of the ticks for a quarter note, in the place of another one (own rule).
+/// Overwrites the line with the line for the ticks for a quarter note (own rule).
 pub(crate) fn fill_resolution_line(line: &mut Line, ticks: u16)
     ensures text { line.new ≡ resolution_text ticks }
     ensures some { 0 < length line.new }
@@ -18,8 +18,8 @@ pub(crate) fn fill_resolution_line(line: &mut Line, ticks: u16)
     put_text(line, "\n");
 }
 
-/// Makes the line that of an event, in the place of another one: the ticks at which it stands, and the line
-/// of its packet (own rule).
+/// Overwrites the line with the line for an event: the ticks of the event, and the line of its packet (own
+/// rule).
 #[inline(always)]
 pub(crate) fn fill_event_line(line: &mut Line, ticks: u64, framed: &Framed, packet: &Packet)
     ensures text { line.new ≡ event_text ticks (framed.now, packet.now) }
@@ -31,7 +31,7 @@ pub(crate) fn fill_event_line(line: &mut Line, ticks: u64, framed: &Framed, pack
     put_packet_line(line, packet, framed.words.as_slice(), framed.offset);
 }
 
-/// Makes the line that of the ticks at which the clip ends, in the place of another one (own rule).
+/// Overwrites the line with the line for the ticks at which the clip ends (own rule).
 pub(crate) fn fill_end_line(line: &mut Line, ticks: u64)
     ensures text { line.new ≡ end_text ticks }
     ensures some { 0 < length line.new }

@@ -1,4 +1,4 @@
-// The words of `clip` (own rules).
+// The arguments of `clip` (own rules).
 use crate::subcommand::Subcommand;
 
 pub const WORDS: Subcommand<'static> = Subcommand {

@@ -1,4 +1,4 @@
-// The words of `endpoint` (own rules).
+// The arguments of `endpoint` (own rules).
 ghost use Rattle.std.specs.Prelude.{◌≡◌, IfSome, option_map};
 ghost use Rattle.clap.specs.Words.{found_of, rows_of};
 ghost use Rattle.command_line.specs.Asked.{asked_of};
@@ -12,10 +12,10 @@ use crate::subcommand::{Argument, Subcommand};
 use clap::ArgMatches;
 use packet_words::Order;
 
-/// What `endpoint` is asked for.
+/// The options of `endpoint`.
 #[derive(Clone, Copy, Debug, PartialEq, Eq)]
 pub struct EndpointOptions {
-    /// The order of the bytes of a word.
+    /// The byte order of a word.
     pub order: Order,
     /// The most bytes of an exclusive between F0 and F7, 6 to 1,048,576.
     pub room: u32,
@@ -30,7 +30,7 @@ pub const WORDS: Subcommand<'static> = Subcommand {
     ],
 };
 
-// The command of the matches of `endpoint`.
+// Returns the command for the matches of `endpoint`.
 pub fn endpoint<'a>(matches: &ArgMatches<'a>) -> Option<Command<'a>>
     ensures command { option_map asked_of result ≡ endpoint_by (rows_of (found_of matches.now)) }
     ensures range { IfSome result (λ c. IsInRange (asked_of c)) }

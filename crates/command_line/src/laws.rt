@@ -1,11 +1,11 @@
-// Laws of the command line: words of each command, and a request for help.
+// Laws of the command line: arguments of each command, and requests for help.
 ghost use Rattle.std.specs.Prelude.{◌≡◌, Some, None, true, false, codes, [], ◌∷◌};
 ghost use Rattle.command_line.specs.Asked.{down, up, back, show, show_bytes, endpoint, usb_split, usb_pack, sysex8, rehearse, clip, self_test};
 ghost use Rattle.command_line.specs.Rules.{command_of};
 ghost use Rattle.command_line.specs.declared.translate.LaneStyle.TheVariants.{Plain, Compact};
 ghost use Rattle.packet_words.specs.declared.words.Order.TheVariants.{Big, Little};
 
-/// `translate down` with its folder, alone and with all that may be left out.
+/// `translate down` is accepted with its folder, without further options and with all of them.
 pub fn down_is_taken()
     ensures least { command_of (codes "translate" ∷ codes "down" ∷ codes "--folder" ∷ codes "F" ∷ [])
         ≡ Some (down (codes "F") (record { style = Plain; paired = false; order = Big; room = 1048576 })) }
@@ -14,7 +14,7 @@ pub fn down_is_taken()
         ≡ Some (down (codes "F") (record { style = Compact; paired = true; order = Little; room = 6 })) }
 {}
 
-/// `translate up`, alone and with all that may be left out.
+/// `translate up` is accepted without options and with all of them.
 pub fn up_is_taken()
     ensures least { command_of (codes "translate" ∷ codes "up" ∷ [])
         ≡ Some (up (record { group = 0; paired = false; order = Big; room = 1048576 })) }
@@ -23,7 +23,7 @@ pub fn up_is_taken()
         ≡ Some (up (record { group = 15; paired = true; order = Little; room = 6 })) }
 {}
 
-/// `translate back`, alone and with all that may be left out.
+/// `translate back` is accepted without options and with all of them.
 pub fn back_is_taken()
     ensures least { command_of (codes "translate" ∷ codes "back" ∷ [])
         ≡ Some (back (record { group = 0; paired = false; room = 1048576 })) }
@@ -32,7 +32,7 @@ pub fn back_is_taken()
         ≡ Some (back (record { group = 15; paired = true; room = 6 })) }
 {}
 
-/// `show`, of words and of bytes, alone and with all that may be left out.
+/// `show` and `show --bytes` are accepted without further options and with all of them.
 pub fn show_is_taken()
     ensures words { command_of (codes "show" ∷ [])
         ≡ Some (show (record { state = false; order = Big; room = 1048576 })) }
@@ -46,7 +46,7 @@ pub fn show_is_taken()
         ≡ Some (show_bytes (record { state = true; room = 6 })) }
 {}
 
-/// `endpoint` with its setup, alone and with all that may be left out.
+/// `endpoint` is accepted with its setup, without options and with all of them.
 pub fn endpoint_is_taken()
     ensures least { command_of (codes "endpoint" ∷ codes "S" ∷ [])
         ≡ Some (endpoint (codes "S") (record { order = Big; room = 1048576 })) }
@@ -55,13 +55,13 @@ pub fn endpoint_is_taken()
         ≡ Some (endpoint (codes "S") (record { order = Little; room = 6 })) }
 {}
 
-/// `usb split` with its folder.
+/// `usb split` is accepted with its folder.
 pub fn usb_split_is_taken()
     ensures { command_of (codes "usb" ∷ codes "split" ∷ codes "--folder" ∷ codes "F" ∷ [])
         ≡ Some (usb_split (codes "F")) }
 {}
 
-/// `usb pack`, alone and with all that may be left out.
+/// `usb pack` is accepted without options and with all of them.
 pub fn usb_pack_is_taken()
     ensures least { command_of (codes "usb" ∷ codes "pack" ∷ [])
         ≡ Some (usb_pack (record { cable = 0; room = 1048576 })) }
@@ -70,7 +70,7 @@ pub fn usb_pack_is_taken()
         ≡ Some (usb_pack (record { cable = 15; room = 6 })) }
 {}
 
-/// `sysex8` with its folder, alone and with all that may be left out.
+/// `sysex8` is accepted with its folder, without further options and with all of them.
 pub fn sysex8_is_taken()
     ensures least { command_of (codes "sysex8" ∷ codes "--folder" ∷ codes "F" ∷ [])
         ≡ Some (sysex8 (codes "F") (record { streams = 16; order = Big; room = 1048576 })) }
@@ -80,18 +80,18 @@ pub fn sysex8_is_taken()
         ≡ Some (sysex8 (codes "F") (record { streams = 64; order = Little; room = 13 })) }
 {}
 
-/// `rehearse` with its setup.
+/// `rehearse` is accepted with its setup.
 pub fn rehearse_is_taken()
     ensures { command_of (codes "rehearse" ∷ codes "S" ∷ [])
         ≡ Some (rehearse (codes "S")) }
 {}
 
-/// `clip`, which has no other words.
+/// `clip` is accepted. It has no other arguments.
 pub fn clip_is_taken()
     ensures { command_of (codes "clip" ∷ []) ≡ Some clip }
 {}
 
-/// `selftest` with its seed, alone and with all that may be left out.
+/// `selftest` is accepted with its seed, without options and with all of them.
 pub fn self_test_is_taken()
     ensures least { command_of (codes "selftest" ∷ codes "0" ∷ [])
         ≡ Some (self_test (record { seed = 0; packets = 10000 })) }
@@ -100,7 +100,7 @@ pub fn self_test_is_taken()
         ≡ Some (self_test (record { seed = 4294967295; packets = 1000000 })) }
 {}
 
-/// Requests for help, and no words at all, aren't commands.
+/// A request for help isn't a command, and neither is an empty list of arguments.
 pub fn help_is_not_taken()
     ensures help { command_of (codes "--help" ∷ []) ≡ None }
     ensures below { command_of (codes "show" ∷ codes "--help" ∷ []) ≡ None }

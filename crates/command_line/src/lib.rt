@@ -1,5 +1,8 @@
-//! The command line: parses the arguments with `clap` into a command. Each subcommand has its own file, with
-//! its options and how they are parsed.
+//! Parses the arguments of the command line with `clap` into a command. Each subcommand has its own file,
+//! with its options and how they are parsed.
+//!
+//! Start with [`command_line`], which returns a [`Command`], or a [`WordsFault`] that says why the arguments
+//! give none. For example, `show --little` gives `Command::Show` with little-endian words.
 #![tactic(auto)]
 
 mod clip;

@@ -1,4 +1,4 @@
-// What `clap` finds in the words.
+// Parses the arguments with `clap`.
 ghost use Rattle.std.specs.Prelude.{◌≡◌, true, false, IfOk, map, string_bytes};
 ghost use Rattle.std.specs.Option.{option_copied};
 ghost use Rattle.clap.specs.Words.{found_of, rows_of};
@@ -14,7 +14,7 @@ use clap::error::ErrorKind;
 use packet_words::Order;
 use std::alloc::Global;
 
-// The matches of the words.
+// Returns what `clap` finds in the arguments.
 pub fn matches_of<'a>(alloc: Global, words: &'a [String]) -> Result<ArgMatches<'a>, WordsFault>
     ensures taken { IfOk result (λ m. is_taken (map string_bytes words.entry.now) ≡ true) }
     ensures matches { IfOk result
@@ -31,7 +31,7 @@ pub fn matches_of<'a>(alloc: Global, words: &'a [String]) -> Result<ArgMatches<'
     }
 }
 
-// A request for help or a version is a case of words that aren't taken.
+// Returns the fault for an error of `clap`. A request for help or for the version is a `Usage` fault.
 fn fault_of(kind: ErrorKind) -> WordsFault
     ensures memory { kind ≡ ErrorKind.OutOfMemory → result ≡ WordsFault.NoMemory }
     ensures usage { result ≡ WordsFault.Usage → kind ≡ ErrorKind.OutOfMemory → ⊥ }
@@ -43,14 +43,14 @@ fn fault_of(kind: ErrorKind) -> WordsFault
     }
 }
 
-// The value of an option or positional, if it is given.
+// Returns the value of an option or positional argument, if it is given.
 pub fn text<'a>(matches: &ArgMatches<'a>, id: &str) -> Option<&'a str>
     ensures { option_copied result ≡ first_of id.now (rows_of (found_of matches.now)) }
 {
     matches.get_str(id)
 }
 
-// Whether a flag is given.
+// Returns whether a flag is given.
 pub fn is_flag_set(matches: &ArgMatches<'_>, id: &str) -> bool
     ensures { result ≡ is_set id.now (rows_of (found_of matches.now)) }
 {
@@ -60,14 +60,14 @@ pub fn is_flag_set(matches: &ArgMatches<'_>, id: &str) -> bool
     }
 }
 
-// Whether an option is given.
+// Returns whether an option is given.
 pub fn is_given(matches: &ArgMatches<'_>, id: &str) -> bool
     ensures { result ≡ has_value id.now (rows_of (found_of matches.now)) }
 {
     text(matches, id).is_some()
 }
 
-// The order of the bytes of a word.
+// Returns the byte order of a word.
 pub fn word_order(matches: &ArgMatches<'_>) -> Order
     ensures { result ≡ order_by (rows_of (found_of matches.now)) }
 {

@@ -1,4 +1,4 @@
-// Numbers of the command line (own rule): 1 to 10 decimal digits, in a range.
+// Reads numbers of the command line (own rule): 1 to 10 decimal digits, in a range.
 ghost use Rattle.std.specs.Prelude.{◌≡◌, ◌≤◌, ◌<◌, IfSome};
 ghost use Rattle.std.specs.Option.{option_copied};
 ghost use Rattle.std.specs.List.{list_all};
@@ -13,7 +13,8 @@ fn is_digits(text: &str) -> bool
     text.as_bytes().iter().all(|byte| byte.is_ascii_digit())
 }
 
-// The number of 1 to 10 digits; none if the text is no such number or it isn't in the range.
+// Returns the number that 1 to 10 digits spell, or `None` if the text is no such number or the number isn't
+// in the range.
 pub fn number(text: &str, least: u32, most: u32) -> Option<u32>
     ensures number { result ≡ number_of least most text.now }
     ensures range { IfSome result (λ n. (least ≤ n) × (n ≤ most)) }
@@ -31,7 +32,7 @@ pub fn number(text: &str, least: u32, most: u32) -> Option<u32>
     Some(value as u32)
 }
 
-// The same of the text of an option, which may be left out.
+// Returns the number of an option's text as `number` does, or `absent` if the option isn't given.
 pub fn number_or(text: Option<&str>, least: u32, most: u32, absent: u32) -> Option<u32>
     requires absent { (least ≤ absent) × (absent ≤ most) }
     ensures number { result ≡ number_or_absent least most absent (option_copied text.entry) }
@@ -43,7 +44,7 @@ pub fn number_or(text: Option<&str>, least: u32, most: u32, absent: u32) -> Opti
     }
 }
 
-// The room for an exclusive, by the text of its option.
+// Returns the limit of an exclusive, by the text of the option.
 pub fn room(text: Option<&str>) -> Option<u32>
     ensures number { result ≡ room_in (option_copied text.entry) }
     ensures range { IfSome result (λ n. IsRoom n) }
@@ -51,7 +52,7 @@ pub fn room(text: Option<&str>) -> Option<u32>
     number_or(text, 6, 1_048_576, 1_048_576)
 }
 
-// The group, by the text of its option.
+// Returns the group, by the text of the option.
 pub fn group(text: Option<&str>) -> Option<U4>
     ensures number { result ≡ group_in (option_copied text.entry) }
     ensures range { IfSome result (λ g. g < 16) }
@@ -60,7 +61,7 @@ pub fn group(text: Option<&str>) -> Option<U4>
     U4::new(value as u8)
 }
 
-// The cable, by the text of its option; it has the range of a group.
+// Returns the cable, by the text of the option. A cable has the range of a group.
 pub fn cable(text: Option<&str>) -> Option<U4>
     ensures number { result ≡ cable_in (option_copied text.entry) }
     ensures range { IfSome result (λ c. c < 16) }

@@ -1,5 +1,5 @@
-// The command that `clap` reads: one simple command, without short
-// names, aliases, defaults or rules of one word on another.
+// The command that `clap` reads: one simple command, without short names, aliases, default values or rules
+// between arguments.
 ghost use Rattle.std.specs.Prelude.{◌≡◌, false, IfOk, map};
 ghost use Rattle.clap.specs.Words.{app_of, rule_of, with_subcommand};
 ghost use Rattle.clap.specs.declared.builder.command.Command.TheViews.{out-Command};
@@ -33,7 +33,7 @@ fn arg_of<'a>(alloc: Global, argument: Argument<'a>) -> Arg<'a>
     }
 }
 
-// The command with more arguments, in their order.
+// Adds arguments to a command, in their order.
 fn with_arguments<'a>(
     alloc: Global,
     command: Command<'a>,
@@ -50,7 +50,7 @@ fn with_arguments<'a>(
     Ok(command)
 }
 
-// The command with one more subcommand.
+// Adds a subcommand to a command.
 fn with_subcommand<'a>(
     alloc: Global,
     command: Command<'a>,
@@ -63,7 +63,7 @@ fn with_subcommand<'a>(
     Ok(command)
 }
 
-// The command with more subcommands, in their order.
+// Adds subcommands to a command, in their order.
 fn with_subcommands<'a>(
     alloc: Global,
     command: Command<'a>,
@@ -79,7 +79,8 @@ fn with_subcommands<'a>(
     Ok(command)
 }
 
-// The command itself, which needs a subcommand. Its words come without the program's name.
+// Creates the command without its subcommands. It needs a subcommand. Its arguments come without the
+// program's name.
 fn bare_command<'a>(alloc: Global) -> Command<'a>
     ensures app { app_of result ≡ bare_app }
 {
@@ -88,7 +89,7 @@ fn bare_command<'a>(alloc: Global) -> Command<'a>
         .subcommand_required(true)
 }
 
-// The command with all its subcommands.
+// Creates the command with all its subcommands.
 #[tactic(auto, unfolding(crate::specs::Rules::cli))]
 pub fn parser<'a>(alloc: Global) -> Result<Command<'a>, AllocError>
     ensures app { IfOk result (λ c. app_of c ≡ cli) }

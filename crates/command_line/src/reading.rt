@@ -1,4 +1,4 @@
-// The command that the matches ask for, by the rules that `clap` isn't told.
+// Reads the command from the matches, by the rules that `clap` doesn't check.
 ghost use Rattle.std.specs.Prelude.{◌≡◌, None, Some, IfOk, IfSome, map, option_map, option_and_then, string_bytes};
 ghost use Rattle.clap.specs.Words.{found_of, rows_of};
 ghost use Rattle.clap.specs.Simple.{subcommand_rows_of};
@@ -17,7 +17,7 @@ use crate::usb::usb;
 use clap::ArgMatches;
 use std::alloc::Global;
 
-// The command of a subcommand's name and matches.
+// Returns the command for a subcommand's name and matches.
 fn command_in<'a>(name: &str, matches: &ArgMatches<'a>) -> Option<Command<'a>>
     ensures command { option_map asked_of result ≡ asked_in name.now (rows_of (found_of matches.now)) }
     ensures range { IfSome result (λ c. IsInRange (asked_of c)) }
@@ -35,7 +35,7 @@ fn command_in<'a>(name: &str, matches: &ArgMatches<'a>) -> Option<Command<'a>>
     }
 }
 
-// The same, of a subcommand that is none of these.
+// Returns the command for a subcommand's name and matches, if `command_in` doesn't know the name.
 fn command_in_rest<'a>(name: &str, matches: &ArgMatches<'a>) -> Option<Command<'a>>
     ensures command { option_map asked_of result
         ≡ asked_in_rest name.now (rows_of (found_of matches.now)) }
@@ -54,7 +54,7 @@ fn command_in_rest<'a>(name: &str, matches: &ArgMatches<'a>) -> Option<Command<'
     }
 }
 
-// The command of the matches of the whole line.
+// Returns the command for the matches of the whole line.
 fn command_below<'a>(matches: &ArgMatches<'a>) -> Option<Command<'a>>
     ensures command { option_map asked_of result
         ≡ option_and_then (λ p. asked_in p.0 p.1) (subcommand_rows_of matches.now) }
@@ -66,19 +66,23 @@ fn command_below<'a>(matches: &ArgMatches<'a>) -> Option<Command<'a>>
     }
 }
 
-/// The command of the words, which come without the program's name (own rule). A folder and the name of a
-/// setup are borrowed from the words.
+/// Parses the arguments, which come without the program's name (own rule). The names of a folder and of a
+/// setup are borrowed from the arguments. The name of a setup may be any text, and the name of a folder may
+/// be empty.
 ///
-/// `Usage` only if `clap` doesn't take the words, as with a request for help, or a rule of ours is broken,
-/// and such words never give a command: the direction of a translation is `down`, `up` or `back`, and that of
-/// USB-MIDI events `split` or `pack`; `--folder`, which may be empty, is given with `down` and `split` and
-/// with no other direction, and with `sysex8`; `--compact` is given with no other direction than `down`,
-/// `--paired` with any; `--group` isn't given with `down`, nor `--cable` and `--room` with `split`;
-/// `--little` isn't given with `back`, nor with `--bytes`; a number has 1 to 10 digits and lies in its range,
-/// a group or a cable 0 to 15 (at first 0), a room 6 to 1,048,576 (at first the greatest), that of an 8-bit
-/// exclusive 13 to 1,048,576, a number of streams 1 to 64 (at first 16), a seed 0 to 4,294,967,295, and a
-/// number of packets 1 to 1,000,000 (at first 10,000). The name of a setup may be any text. `NoMemory` if
-/// `clap` finds no memory.
+/// Returns `Usage` only if `clap` doesn't accept the arguments, as with a request for help, or if they break
+/// one of these rules. Arguments for which `Usage` is returned never give a command.
+/// - The direction of a translation is `down`, `up` or `back`. That of USB-MIDI events is `split` or `pack`.
+/// - `--folder` is given with `down`, `split` and `sysex8`, and with no other direction.
+/// - `--compact` is given only with `down`. `--paired` may be given with any direction of a translation.
+/// - `--group` isn't given with `down`. `--cable` and `--room` aren't given with `split`.
+/// - `--little` isn't given with `back` or `--bytes`.
+/// - A number has 1 to 10 digits and is in its range: a group or a cable 0 to 15 (default 0), a limit of an
+///   exclusive 6 to 1,048,576 (default 1,048,576), that of an 8-bit exclusive 13 to 1,048,576, a number of
+///   streams 1 to 64 (default 16), a seed 0 to 4,294,967,295, and a number of packets 1 to 1,000,000 (default
+///   10,000).
+///
+/// Returns `NoMemory` if `clap` runs out of memory.
 #[tactic(auto, unfolding(crate::specs::Rules::command_of))]
 pub fn command_line<'a>(alloc: Global, words: &'a [String]) -> Result<Command<'a>, WordsFault>
     ensures ok { IfOk result (λ c. command_of (map string_bytes words.entry.now) ≡ Some (asked_of c)) }

@@ -1,4 +1,4 @@
-// The words of `rehearse` (own rules).
+// The arguments of `rehearse` (own rules).
 ghost use Rattle.std.specs.Prelude.{◌≡◌, IfSome, option_map};
 ghost use Rattle.clap.specs.Words.{found_of, rows_of};
 ghost use Rattle.command_line.specs.Asked.{asked_of};
@@ -15,7 +15,7 @@ pub const WORDS: Subcommand<'static> = Subcommand {
     arguments: &[Argument::Positional("setup")],
 };
 
-// The command of the matches of `rehearse`.
+// Returns the command for the matches of `rehearse`.
 pub fn rehearse<'a>(matches: &ArgMatches<'a>) -> Option<Command<'a>>
     ensures command { option_map asked_of result ≡ rehearse_by (rows_of (found_of matches.now)) }
     ensures range { IfSome result (λ c. IsInRange (asked_of c)) }

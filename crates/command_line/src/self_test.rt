@@ -1,4 +1,4 @@
-// The words of `selftest` (own rules).
+// The arguments of `selftest` (own rules).
 ghost use Rattle.std.specs.Prelude.{◌≡◌, ◌<◌, ◌^◌, IfSome, option_map};
 ghost use Rattle.std.specs.Option.{option_copied};
 ghost use Rattle.clap.specs.Words.{found_of, rows_of};
@@ -12,12 +12,12 @@ use crate::numbers::{number, number_or};
 use crate::subcommand::{Argument, Subcommand};
 use clap::ArgMatches;
 
-/// What `selftest` is asked for.
+/// The options of `selftest`.
 #[derive(Clone, Copy, Debug, PartialEq, Eq)]
 pub struct SelfTestOptions {
-    /// The seed of the packets that are drawn.
+    /// The seed from which packets are generated.
     pub seed: u32,
-    /// How many packets are drawn, 1 to 1,000,000.
+    /// The number of packets to generate, 1 to 1,000,000.
     pub packets: u32,
 }
 
@@ -33,7 +33,7 @@ fn seed(text: &str) -> Option<u32>
     number(text, 0, u32::MAX)
 }
 
-// The number of packets, by the text of the option.
+// Returns the number of packets, by the text of the option.
 fn packets(text: Option<&str>) -> Option<u32>
     ensures number { result ≡ packets_in (option_copied text.entry) }
     ensures range { IfSome result (λ n. IsPacketCount n) }
@@ -41,7 +41,7 @@ fn packets(text: Option<&str>) -> Option<u32>
     number_or(text, 1, 1_000_000, 10_000)
 }
 
-// The command of the matches of `selftest`.
+// Returns the command for the matches of `selftest`.
 pub fn self_test<'a>(matches: &ArgMatches<'a>) -> Option<Command<'a>>
     ensures command { option_map asked_of result ≡ self_test_by (rows_of (found_of matches.now)) }
     ensures range { IfSome result (λ c. IsInRange (asked_of c)) }

@@ -1,4 +1,4 @@
-// The words of `show` and `show --bytes` (own rules).
+// The arguments of `show` and `show --bytes` (own rules).
 ghost use Rattle.std.specs.Prelude.{◌≡◌, IfSome, option_map};
 ghost use Rattle.clap.specs.Words.{found_of, rows_of};
 ghost use Rattle.command_line.specs.Asked.{asked_of};
@@ -12,12 +12,12 @@ use crate::subcommand::{Argument, Subcommand};
 use clap::ArgMatches;
 use packet_words::Order;
 
-/// What `show` is asked for.
+/// The options of `show`.
 #[derive(Clone, Copy, Debug, PartialEq, Eq)]
 pub struct PacketLineOptions {
-    /// Whether the lines end with those of the state that the input leaves.
+    /// Whether lines for the receiver's state follow at the end.
     pub state: bool,
-    /// The order of the bytes of a word.
+    /// The byte order of a word.
     pub order: Order,
     /// The most bytes of an exclusive between F0 and F7, 6 to 1,048,576.
     pub room: u32,
@@ -26,7 +26,7 @@ pub struct PacketLineOptions {
 /// The options of `show --bytes`.
 #[derive(Clone, Copy, Debug, PartialEq, Eq)]
 pub struct ByteLineOptions {
-    /// Whether the lines end with those of the state that the input leaves.
+    /// Whether lines for the receiver's state follow at the end.
     pub state: bool,
     /// The most bytes of an exclusive between F0 and F7, 6 to 1,048,576.
     pub room: u32,
@@ -66,7 +66,7 @@ fn bytes<'a>(matches: &ArgMatches<'a>) -> Option<Command<'a>>
     }))
 }
 
-// The command of the matches of `show`.
+// Returns the command for the matches of `show`.
 pub fn show<'a>(matches: &ArgMatches<'a>) -> Option<Command<'a>>
     ensures command { option_map asked_of result ≡ show_by (rows_of (found_of matches.now)) }
     ensures range { IfSome result (λ c. IsInRange (asked_of c)) }

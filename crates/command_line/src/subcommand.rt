@@ -1,17 +1,17 @@
-// What a subcommand takes, as a table says it.
+// The tables that describe a subcommand.
 
 // An argument of a subcommand, by its name.
 #[derive(Clone, Copy)]
 pub enum Argument<'a> {
-    // A word that stands by its place and must be given.
+    // A positional argument, which must be given.
     Positional(&'a str),
-    // An option by its long name, with a text as value.
+    // An option with this long name, which takes a text as its value.
     Option(&'a str),
-    // An option by its long name, without a value.
+    // An option with this long name and without a value.
     Flag(&'a str),
 }
 
-// A subcommand, and the arguments that it takes.
+// A subcommand, and the arguments that it accepts.
 #[derive(Clone, Copy)]
 pub struct Subcommand<'a> {
     pub name: &'a str,

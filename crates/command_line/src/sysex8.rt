@@ -1,4 +1,4 @@
-// The words of `sysex8` (own rules).
+// The arguments of `sysex8` (own rules).
 ghost use Rattle.std.specs.Prelude.{◌≡◌, IfSome, option_map};
 ghost use Rattle.std.specs.Option.{option_copied};
 ghost use Rattle.clap.specs.Words.{found_of, rows_of};
@@ -13,12 +13,12 @@ use crate::subcommand::{Argument, Subcommand};
 use clap::ArgMatches;
 use packet_words::Order;
 
-/// What `sysex8` is asked for.
+/// The options of `sysex8`.
 #[derive(Clone, Copy, Debug, PartialEq, Eq)]
 pub struct Sysex8Options {
-    /// The most streams whose exclusives are begun at once, 1 to 64.
+    /// The most streams that may have an open exclusive at once, 1 to 64.
     pub streams: u8,
-    /// The order of the bytes of a word.
+    /// The byte order of a word.
     pub order: Order,
     /// The most bytes of an 8-bit exclusive, 13 to 1,048,576.
     pub room: u32,
@@ -34,7 +34,7 @@ pub const WORDS: Subcommand<'static> = Subcommand {
     ],
 };
 
-// The most streams at once, by the text of the option.
+// Returns the most streams at once, by the text of the option.
 fn streams(text: Option<&str>) -> Option<u8>
     ensures number { result ≡ streams_in (option_copied text.entry) }
     ensures range { IfSome result (λ n. IsStreamCount n) }
@@ -43,7 +43,7 @@ fn streams(text: Option<&str>) -> Option<u8>
     Some(value as u8)
 }
 
-// The room for an 8-bit exclusive, by the text of the option.
+// Returns the limit of an 8-bit exclusive, by the text of the option.
 fn room8(text: Option<&str>) -> Option<u32>
     ensures number { result ≡ room8_in (option_copied text.entry) }
     ensures range { IfSome result (λ n. IsRoom8 n) }
@@ -51,7 +51,7 @@ fn room8(text: Option<&str>) -> Option<u32>
     number_or(text, 13, 1_048_576, 1_048_576)
 }
 
-// The command of the matches of `sysex8`.
+// Returns the command for the matches of `sysex8`.
 pub fn sysex8<'a>(matches: &ArgMatches<'a>) -> Option<Command<'a>>
     ensures command { option_map asked_of result ≡ sysex8_by (rows_of (found_of matches.now)) }
     ensures range { IfSome result (λ c. IsInRange (asked_of c)) }

@@ -1,4 +1,4 @@
-// The words of `translate down`, `translate up` and `translate back` (own rules).
+// The arguments of `translate down`, `translate up` and `translate back` (own rules).
 ghost use Rattle.std.specs.Prelude.{◌≡◌, IfSome, option_map};
 ghost use Rattle.clap.specs.Words.{found_of, rows_of};
 ghost use Rattle.command_line.specs.Asked.{asked_of};
@@ -13,43 +13,43 @@ use clap::ArgMatches;
 use packet_words::Order;
 use small_types::U4;
 
-/// How messages are written in the lanes of `translate down`.
+/// How `translate down` writes the messages of a group's stream.
 #[derive(Clone, Copy, Debug, PartialEq, Eq)]
 pub enum LaneStyle {
-    /// Each message whole.
+    /// Every message is written in full.
     Plain,
-    /// Without what the receiver of a lane already has (`--compact`).
+    /// What the receiver of the stream already has is left out (`--compact`).
     Compact,
 }
 
-/// What `translate down` is asked for.
+/// The options of `translate down`.
 #[derive(Clone, Copy, Debug, PartialEq, Eq)]
 pub struct DownOptions {
     /// How messages are written.
     pub style: LaneStyle,
-    /// Whether controllers 1 to 31 but 6 are seen at fourteen bits, each
-    /// with the controller whose index is greater by 32.
+    /// Whether each controller 1 to 31, except 6, is read as one value of 14 bits together with the
+    /// controller whose index is greater by 32.
     pub paired: bool,
-    /// The order of the bytes of a word.
+    /// The byte order of a word.
     pub order: Order,
     /// The most bytes of an exclusive between F0 and F7, 6 to 1,048,576.
     pub room: u32,
 }
 
-/// What `translate up` is asked for.
+/// The options of `translate up`.
 #[derive(Clone, Copy, Debug, PartialEq, Eq)]
 pub struct UpOptions {
     /// The group of the packets.
     pub group: U4,
     /// Whether controllers are paired, as in `DownOptions`.
     pub paired: bool,
-    /// The order of the bytes of a word.
+    /// The byte order of a word.
     pub order: Order,
     /// The most bytes of an exclusive between F0 and F7, 6 to 1,048,576.
     pub room: u32,
 }
 
-/// What `translate back` is asked for.
+/// The options of `translate back`.
 #[derive(Clone, Copy, Debug, PartialEq, Eq)]
 pub struct BackOptions {
     /// The group of the packets.
@@ -132,7 +132,7 @@ fn back<'a>(matches: &ArgMatches<'a>) -> Option<Command<'a>>
     }))
 }
 
-// The command of the matches of `translate`.
+// Returns the command for the matches of `translate`.
 pub fn translate<'a>(matches: &ArgMatches<'a>) -> Option<Command<'a>>
     ensures command { option_map asked_of result ≡ translate_by (rows_of (found_of matches.now)) }
     ensures range { IfSome result (λ c. IsInRange (asked_of c)) }

@@ -1,4 +1,4 @@
-// The words of `usb split` and `usb pack` (own rules).
+// The arguments of `usb split` and `usb pack` (own rules).
 ghost use Rattle.std.specs.Prelude.{◌≡◌, IfSome, option_map};
 ghost use Rattle.clap.specs.Words.{found_of, rows_of};
 ghost use Rattle.command_line.specs.Asked.{asked_of};
@@ -12,7 +12,7 @@ use crate::subcommand::{Argument, Subcommand};
 use clap::ArgMatches;
 use small_types::U4;
 
-/// What `usb pack` is asked for.
+/// The options of `usb pack`.
 #[derive(Clone, Copy, Debug, PartialEq, Eq)]
 pub struct PackOptions {
     /// The cable of the events.
@@ -55,7 +55,7 @@ fn pack<'a>(matches: &ArgMatches<'a>) -> Option<Command<'a>>
     }))
 }
 
-// The command of the matches of `usb`.
+// Returns the command for the matches of `usb`.
 pub fn usb<'a>(matches: &ArgMatches<'a>) -> Option<Command<'a>>
     ensures command { option_map asked_of result ≡ usb_by (rows_of (found_of matches.now)) }
     ensures range { IfSome result (λ c. IsInRange (asked_of c)) }

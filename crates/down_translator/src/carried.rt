@@ -1,4 +1,4 @@
-// What is carried of a packet.
+// The outcome of a packet.
 ghost use Rattle.std.specs.Prelude.{◌==◌, if◌then◌else◌, length};
 
 use crate::pieces::Piece;
@@ -55,7 +55,7 @@ impl LentLine {
 /// The outcome of a packet.
 #[derive(Clone, Copy, Debug)]
 pub struct Carried<'a> {
-    /// The MIDI 1.0 bytes of the packet, empty exactly if it isn't carried.
+    /// The MIDI 1.0 bytes of the packet, empty exactly if the packet isn't translated.
     pub piece: &'a [u8],
     lane: LentU4,
     line: Option<LentLine>,
@@ -65,7 +65,7 @@ impl<'a> Carried<'a> {
     ghost use Rattle.std.specs.Prelude.{◌≡◌, [], Some, None};
     ghost use Rattle.down_translator.specs.Carried.{lane_in, line_in};
 
-    /// A piece in a lane.
+    /// Creates an outcome with a piece in a lane.
     pub(crate) fn new(lane: U4, piece: &'a [u8], listed: Option<Listed>) -> Carried<'a>
         ensures lane { lane_in result ≡ lane }
         ensures piece { result.piece.now ≡ piece.now }
@@ -82,7 +82,7 @@ impl<'a> Carried<'a> {
         }
     }
 
-    /// A piece in the lane of its group, or none if it is empty.
+    /// Creates an outcome with a piece in the lane of its group, or without a lane if the piece is empty.
     pub(crate) fn lent(group: U4, piece: &'a Piece, listed: Option<Listed>) -> Carried<'a>
         ensures lane { lane_in result ≡ (if length piece.now == 0 then 0 else group) }
         ensures piece { result.piece.now ≡ piece.now }
@@ -96,7 +96,7 @@ impl<'a> Carried<'a> {
         Carried::new(lane, piece.as_slice(), listed)
     }
 
-    /// No piece and no line.
+    /// Creates an outcome without a piece or a line.
     pub(crate) fn nothing() -> Carried<'a>
         ensures lane { lane_in result ≡ 0 }
         ensures piece { result.piece.now ≡ [] }
@@ -105,7 +105,7 @@ impl<'a> Carried<'a> {
         Carried::new(U4::low_bits(0), &[], None)
     }
 
-    /// A line alone.
+    /// Creates an outcome with a line only.
     pub(crate) fn only_listed(offset: u64, group: Option<U4>, kind: Kind) -> Carried<'a>
         ensures lane { lane_in result ≡ 0 }
         ensures piece { result.piece.now ≡ [] }
@@ -119,14 +119,14 @@ impl<'a> Carried<'a> {
         Carried::new(U4::low_bits(0), &[], Some(listed))
     }
 
-    /// The lane: the packet's group if it is carried, and otherwise 0.
+    /// Returns the lane: the packet's group if the packet is translated, and otherwise 0.
     pub fn lane(&self) -> U4
         ensures { result ≡ lane_in self.now }
     {
         self.lane.get()
     }
 
-    /// The line of the listing, if the packet has one.
+    /// Returns the line of the listing, if the packet has one.
     pub fn listed(&self) -> Option<Listed>
         ensures { result ≡ line_in self.now }
     {

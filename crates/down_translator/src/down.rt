@@ -1,4 +1,4 @@
-// The translator down, in both styles.
+// The translator from packets to MIDI 1.0 bytes, in both styles.
 ghost use Rattle.std.specs.Prelude.{◌≡◌, ◌≤◌, ◌<◌, ◌&&◌, not, IfOk, IsTrue, MatchOption, true, false, Some, None, length, take};
 ghost use Rattle.sysex_groups.specs.Exclusives.{IsData};
 ghost use Rattle.ump_grammar.specs.Ranges.{IsPacket};
@@ -42,8 +42,9 @@ use sysex_groups::{Fed, Groups};
 use ump_grammar::Packet;
 use voice_messages::{Form, System, U7, Voice1, Voice2};
 
-/// Translates packets to the MIDI 1.0 bytes of sixteen lanes, a lane for each group. A contract sees its
-/// state: the open exclusives of the groups, and in compact style what is kept of each lane.
+/// Translates packets to the MIDI 1.0 bytes of sixteen lanes, one lane (stream) for each group. In
+/// contracts its value is its state: the open exclusives of the groups and, in compact style, the state
+/// stored for each lane.
 #[derive(Drop)]
 pub struct Down {
     groups: Groups,
@@ -68,10 +69,10 @@ impl Down {
     ghost use Rattle.down_translator.specs.Lend.{KeepsDown};
     ghost use Rattle.down_translator.specs.Step.{Translates};
 
-    /// A translator that writes in this style, with controllers paired or not (own rule), in which nothing
-    /// is open. Reserves memory for what is kept of the lanes, and for an exclusive of `room` bytes between
-    /// F0 and F7 in each group, 6 to 1,048,576 (own rule); no other call takes any. `NoMemory` if there
-    /// isn't that much.
+    /// Creates a translator that writes in this style, with controllers paired or not (own rule) and with
+    /// nothing open. Reserves memory for the state of the lanes, and for an exclusive with `room` bytes
+    /// between F0 and F7 in each group, 6 to 1,048,576 (own rule). No other call allocates memory. Returns
+    /// `NoMemory` if the memory can't be allocated.
     pub fn new(alloc: Global, room: u32, style: Style, paired: bool) -> Result<Down, NoMemory>
         requires least { 6 ≤ room }
         requires most { room ≤ 1048576 }
@@ -86,8 +87,8 @@ impl Down {
         })
     }
 
-    /// Drops the open exclusives, and what is kept of the lanes: the translator equals a new one of the
-    /// same limit and style, with controllers paired or not as before (own rule). Takes no memory.
+    /// Drops the open exclusives and the state of the lanes. The translator then equals a new one with the
+    /// same limit and style, and with controllers paired or not as before (own rule). Allocates no memory.
     pub fn reset(&mut self)
         ensures { self.new ≡ new_down (paired_of self.old) (style_of self.old) (limit_of self.old) }
     {
@@ -95,7 +96,7 @@ impl Down {
         self.lanes.reset();
     }
 
-    /// Takes one more packet of an exclusive.
+    /// Translates one more packet of an exclusive.
     #[tactic(auto, using(crate::proofs::ExclusiveLaws::exclusive_lanes))]
     #[inline(always)]
     fn exclusive(
@@ -162,7 +163,7 @@ impl Down {
         self.lanes.paired()
     }
 
-    /// Takes a voice message of MIDI 2.0, except for a control change if controllers are paired.
+    /// Translates a MIDI 2.0 voice message, except for a control change if controllers are paired.
     #[tactic(auto, using(crate::proofs::StyledLaws::lent2, crate::proofs::PieceLaws::unpaired_kind))]
     #[inline(always)]
     fn unpaired(&mut self, group: U4, message: &Voice2, offset: u64) -> Result<Carried<'_>, BadStep>
@@ -182,7 +183,7 @@ impl Down {
         }
     }
 
-    /// Takes a control change of MIDI 2.0 if controllers are paired.
+    /// Translates a MIDI 2.0 control change if controllers are paired.
     #[tactic(auto, using(crate::proofs::StyledLaws::lent2))]
     #[inline(always)]
     fn paired_control(
@@ -232,14 +233,14 @@ impl Down {
         }
     }
 
-    /// Takes one more packet, and returns its MIDI 1.0 bytes, its lane, and its line of the listing
-    /// (M2-104-UM, default translation; what that leaves out is listed by own rule). The packet is one that
-    /// some words decode to, and the offset the number of input bytes before it.
+    /// Translates one more packet, and returns its MIDI 1.0 bytes, its lane, and its line of the listing
+    /// (M2-104-UM, default translation; what that leaves out is listed by own rule). The packet must be one
+    /// that some words decode to. The offset is the number of input bytes before it.
     ///
-    /// `DataIncrement` and `DataDecrement` are returned exactly for a control change 96 and 97, respectively,
-    /// of either protocol, and leave the translator as it was. `ExclusiveTooLong` is returned exactly when
-    /// the packet adds to an exclusive that then has more bytes than the limit; that group has nothing open
-    /// afterwards, and all else stays as it is (own rules).
+    /// * `DataIncrement` and `DataDecrement` are returned exactly for a control change 96 and 97,
+    ///   respectively, of either protocol. The translator is then unchanged.
+    /// * `ExclusiveTooLong` is returned exactly if the packet adds to an exclusive that then has more bytes
+    ///   than the limit. That group then has nothing open, and everything else is unchanged (own rules).
     #[inline(always)]
     pub fn packet(&mut self, packet: &Packet, offset: u64) -> Result<Carried<'_>, BadStep>
         requires { IsPacket packet.now }
@@ -251,7 +252,7 @@ impl Down {
             Packet::System { group, message } => self.system(*group, message, offset),
             Packet::Voice1 { group, message } => self.voice1(*group, message, offset),
             Packet::Exclusive { group, form, bytes } => {
-                // A copy, since a packet that a call sees a part of would not stay in registers.
+                // A copy is made, since a packet doesn't stay in registers if a call sees a part of it.
                 let bytes = bytes.copied();
                 self.exclusive(*group, *form, bytes.as_slice(), offset)
             }
@@ -267,7 +268,7 @@ impl Down {
         }
     }
 
-    // Takes a part of an exclusive that is given with all its six places for bytes.
+    // Translates a part of an exclusive with all its six places for bytes.
     #[tactic(auto, using(crate::proofs::LoweredLaws::few_of, crate::proofs::LoweredLaws::data_of))]
     #[inline(always)]
     fn part(&mut self, part: ExclusivePart, offset: u64) -> Result<Carried<'_>, BadStep>
@@ -287,7 +288,7 @@ impl Down {
         self.exclusive(group, form, &bytes[..count], offset)
     }
 
-    // Whether a direct message is carried by one MIDI 1.0 message with all its bytes.
+    // Returns whether a direct message is translated into one MIDI 1.0 message with all its bytes.
     #[tactic(auto, using(crate::proofs::DirectLaws::direct_index))]
     #[inline(always)]
     fn is_lowered(&self, message: &DirectMessage) -> bool
@@ -297,7 +298,7 @@ impl Down {
         self.lanes.goes_direct(control_index(message))
     }
 
-    // The same for a message of MIDI 1.0, which has its own bytes.
+    // Returns the same for a MIDI 1.0 message, which has its own bytes.
     #[inline(always)]
     fn lowers(&self, message: &LoweredMessage) -> bool
         ensures { result ≡ (is_plain self.now.lanes.style
@@ -306,7 +307,7 @@ impl Down {
         self.lanes.goes_direct(message_index(message))
     }
 
-    // The same for a message of MIDI 1.0 in compact style.
+    // Returns the same for a MIDI 1.0 message in compact style.
     #[inline(always)]
     fn shortens(&self, message: &LoweredMessage) -> bool
         ensures { result ≡ (not (is_plain self.now.lanes.style)
@@ -315,8 +316,8 @@ impl Down {
         self.lanes.is_shortened(message_index(message))
     }
 
-    // Whether it is carried by one MIDI 1.0 message, perhaps without its
-    // status byte, and leaves the registers as they are.
+    // Returns whether a direct message is translated into one MIDI 1.0 message, perhaps without its status
+    // byte, and leaves the registers unchanged.
     #[tactic(auto, using(crate::proofs::DirectLaws::direct_index))]
     #[inline(always)]
     fn is_shortened(&self, message: &DirectMessage) -> bool
@@ -326,9 +327,9 @@ impl Down {
         self.lanes.is_shortened(control_index(message))
     }
 
-    /// Takes a packet that is given as its words, and answers as `packet` does. It is decoded only if its
-    /// words don't show the answer. They do for most parts of exclusives, and for packets that no message
-    /// of MIDI 1.0 carries.
+    /// Translates a packet stored as words, with the same result as `packet`. The packet is decoded only if
+    /// its words don't show the result. They do show it for most parts of exclusives, and for packets that
+    /// no MIDI 1.0 message can express.
     #[inline(always)]
     pub fn encoded(&mut self, packet: &EncodedPacket, offset: u64) -> Result<Carried<'_>, BadStep>
         ensures answer { Translates self.old offset packet.now result }
@@ -340,7 +341,7 @@ impl Down {
         }
     }
 
-    // Answers a packet that isn't read as a part of an exclusive.
+    // Translates a packet that isn't read as a part of an exclusive.
     #[inline(always)]
     fn whole(&mut self, packet: &EncodedPacket, offset: u64) -> Result<Carried<'_>, BadStep>
         ensures answer { Translates self.old offset packet.now result }
@@ -352,8 +353,8 @@ impl Down {
         }
     }
 
-    // Takes a message in compact style: it is written without its status byte if that is the running status
-    // of its lane.
+    // Translates a message in compact style: it is written without its status byte if that is the running
+    // status of its lane.
     #[tactic(auto, using(crate::proofs::ShortenedLaws::shortened_is))]
     #[inline(always)]
     fn shorten(&mut self, message: LoweredMessage) -> ShortenedMessage
@@ -381,7 +382,7 @@ impl Down {
         }
     }
 
-    // The same as `shortened` for a direct message.
+    // Does the same as `shortened` for a direct message.
     #[tactic(auto, using(crate::proofs::ShortenedLaws::same_shortened))]
     #[inline(always)]
     fn shortened_direct(&mut self, message: &DirectMessage) -> Option<ShortenedMessage>
@@ -397,7 +398,7 @@ impl Down {
         }
     }
 
-    // The same as `shortened` for a packet that isn't a direct message.
+    // Does the same as `shortened` for a packet that isn't a direct message.
     #[tactic(auto, using(crate::proofs::Midi1Laws::not_short, crate::proofs::Midi1Laws::same_short))]
     #[inline(always)]
     fn shortened_midi1(&mut self, packet: &EncodedPacket) -> Option<ShortenedMessage>
@@ -412,11 +413,13 @@ impl Down {
         }
     }
 
-    /// Takes the packet if in compact style one MIDI 1.0 message carries it and leaves the registers as
-    /// they are. Returns that message, whose status byte is left out if it is the running status of its
-    /// lane (MIDI 1.0 Detailed Specification, running status). These are the packets that `lowered` lists.
-    /// The answer and the state after it are those of `packet`. `None` exactly for other packets and in
-    /// plain style; the translator is then unchanged, and `packet` has their answer.
+    /// In compact style, translates the packet if one MIDI 1.0 message expresses it and leaves the
+    /// registers unchanged. These are the packets that `lowered` lists. Returns that message, whose status
+    /// byte is left out if it is the running status of its lane (MIDI 1.0 Detailed Specification, running
+    /// status). The result and the state after it are those of `packet`.
+    ///
+    /// Returns `None` exactly for other packets and in plain style. The translator is then unchanged: call
+    /// `packet`.
     #[inline(always)]
     pub fn shortened(&mut self, packet: &EncodedPacket) -> Option<ShortenedMessage>
         ensures { MatchOption result
@@ -429,16 +432,16 @@ impl Down {
         }
     }
 
-    /// Returns the message that carries the packet, if in plain style one MIDI 1.0 message with the
-    /// packet's status byte does (M2-104-UM, default translation):
+    /// In plain style, returns the one MIDI 1.0 message with the packet's status byte that expresses the
+    /// packet, if there is one (M2-104-UM, default translation). There is one for these packets:
     ///
-    /// - a note off or on, the pressure of a note or of a channel, or a bend, of either protocol;
-    /// - a control change, of either protocol, of a controller that has a value and isn't one of a pair;
-    /// - a channel mode message other than Reset All Controllers, of either protocol;
-    /// - a program change of MIDI 1.0.
+    /// * a note off or on, the pressure of a note or of a channel, or a bend, of either protocol;
+    /// * a control change, of either protocol, for a controller that has a value and isn't one of a pair;
+    /// * a channel mode message other than Reset All Controllers, of either protocol;
+    /// * a program change of MIDI 1.0.
     ///
-    /// The answer is that of `packet`, which would leave the translator unchanged. `None` exactly for other
-    /// packets and in compact style: `packet` has their answer.
+    /// The result is that of `packet`, which would leave the translator unchanged. Returns `None` exactly
+    /// for other packets and in compact style: call `packet`.
     #[inline(always)]
     pub fn lowered(&self, packet: &EncodedPacket) -> Option<LoweredMessage>
         ensures { MatchOption result (goes_direct self.now packet.now ≡ false)
@@ -450,7 +453,7 @@ impl Down {
         }
     }
 
-    // The same as `lowered` for a packet that isn't a direct message.
+    // Does the same as `lowered` for a packet that isn't a direct message.
     #[tactic(auto, using(crate::proofs::Midi1Laws::not_lowered, crate::proofs::Midi1Laws::same_lowered))]
     #[inline(always)]
     fn lowered_midi1(&self, packet: &EncodedPacket) -> Option<LoweredMessage>
@@ -464,7 +467,7 @@ impl Down {
         }
     }
 
-    /// The same for a direct message, in its group.
+    /// Does the same as `lowered` for a direct message, in its group.
     #[inline(always)]
     pub fn lowered_message(&self, message: &DirectMessage) -> Option<LoweredMessage>
         requires { IsDirectMessage message.now }
@@ -479,9 +482,9 @@ impl Down {
     }
 
     /// Adds the bytes of the packet, if it only continues the open exclusive of its group by six bytes that
-    /// fit the limit (M2-104-UM, system exclusive 7-bit messages), in either style. Then it returns `true`:
-    /// the state is the one after `packet`, whose answer has no bytes and no line. `false` exactly for
-    /// other packets; the translator is then unchanged, and `packet` has their answer.
+    /// fit the limit (M2-104-UM, system exclusive 7-bit messages), in either style. Then it returns `true`,
+    /// and the state is the one after `packet`, whose result would have no bytes and no line. Returns
+    /// `false` exactly for other packets. The translator is then unchanged: call `packet`.
     #[inline(always)]
     pub fn holds(&mut self, packet: &EncodedPacket) -> bool
         ensures held { IsTrue result → IsHeldStep self.old packet.now self.new }
@@ -497,7 +500,8 @@ impl Down {
         }
     }
 
-    /// The offset of the packet that began the open exclusive of the group; `None` exactly if none is open.
+    /// Returns the offset of the packet that began the open exclusive of the group, or `None` exactly if
+    /// none is open.
     pub fn begun_at(&self, group: U4) -> Option<u64>
         ensures { result ≡ option_map (λ begun. begun.start) (begun_in self.now.exclusives group) }
     {

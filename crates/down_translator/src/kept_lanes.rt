@@ -1,4 +1,4 @@
-// The lanes, as they are written in a style.
+// The state of the lanes, which are written in a style.
 ghost use Rattle.std.specs.Prelude.{◌≡◌, ◌≤◌, ◌<◌, ◌++◌, ◌&&◌, if◌then◌else◌, not, IfOk, Some, false, is_some, length};
 ghost use Rattle.std.specs.Option.{option_map};
 ghost use Rattle.midi1_bytes.specs.Messages.{voice};
@@ -38,14 +38,15 @@ use std::marker::Model;
 use sysex_groups::Groups;
 use voice_messages::{Bank, Form, Param, System, U7, Voice1};
 
-/// How lanes are written, and what is kept of each of the sixteen in
-/// compact style. In plain style nothing is kept.
+/// The style in which lanes are written, and in compact style the state of each of the sixteen. In plain
+/// style no state is stored.
 #[derive(Drop)]
 pub struct KeptLanes {
     style: Style,
     paired: bool,
     lanes: Vec<Lane>,
-    // The direct control changes in plain style, and those in compact style; none in the other style.
+    // The direct control changes in plain style, and those in compact style. Each is empty in the other
+    // style.
     whole: DirectControls,
     shortened: DirectControls,
 }
@@ -67,8 +68,8 @@ impl Model for KeptLanes {
         × (l.shortened ≡ definition.when_compact (definition.style_in l.style) l.paired) };
 }
 
-// The direct control changes in plain style, which carries them with
-// all their bytes, and those in compact style.
+// Returns the direct control changes in plain style, which writes all their bytes, and those in compact
+// style.
 fn direct_controls(style: Style, paired: bool) -> (DirectControls, DirectControls)
     ensures whole { result.0 ≡ when_plain (style_in style) paired }
     ensures shortened { result.1 ≡ when_compact (style_in style) paired }
@@ -80,8 +81,8 @@ fn direct_controls(style: Style, paired: bool) -> (DirectControls, DirectControl
 }
 
 impl KeptLanes {
-    /// Sixteen lanes of which nothing is written, with controllers paired or not (own rule). Reserves
-    /// memory for what is kept of them; `NoMemory` if there isn't enough.
+    /// Creates sixteen lanes to which nothing has been written, with controllers paired or not (own rule).
+    /// Reserves memory for their state. Returns `NoMemory` if the memory can't be allocated.
     pub fn new(alloc: Global, style: Style, paired: bool) -> Result<KeptLanes, NoMemory>
         ensures { IfOk result (λ lanes. lanes ≡ new_lanes paired (style_in style)) }
     {
@@ -106,7 +107,7 @@ impl KeptLanes {
         })
     }
 
-    /// Forgets what is kept: nothing is written of any lane.
+    /// Forgets the state: nothing has been written to any lane.
     pub fn reset(&mut self)
         ensures { self.new ≡ new_lanes self.old.paired self.old.style }
     {
@@ -115,7 +116,7 @@ impl KeptLanes {
         }
     }
 
-    /// Whether controllers are paired (own rule).
+    /// Returns whether controllers are paired (own rule).
     #[inline(always)]
     pub fn paired(&self) -> bool
         ensures { result ≡ self.now.paired }
@@ -123,8 +124,8 @@ impl KeptLanes {
         self.paired
     }
 
-    /// Whether the style is plain and the control change with this index is direct, with controllers paired
-    /// or not.
+    /// Returns whether the style is plain and the control change with this index is direct, with
+    /// controllers paired or not.
     #[tactic(auto, using(crate::proofs::DirectLaws::direct_when_plain))]
     #[inline(always)]
     pub fn goes_direct(&self, index: U7) -> bool
@@ -134,8 +135,8 @@ impl KeptLanes {
         self.whole.has(index)
     }
 
-    /// Whether the style is compact and the control change with this index is direct, with controllers
-    /// paired or not.
+    /// Returns whether the style is compact and the control change with this index is direct, with
+    /// controllers paired or not.
     #[tactic(auto, using(crate::proofs::DirectLaws::direct_when_compact))]
     #[inline(always)]
     pub fn is_shortened(&self, index: U7) -> bool
@@ -145,7 +146,7 @@ impl KeptLanes {
         self.shortened.has(index)
     }
 
-    /// Which status bytes are written in the lane of a group.
+    /// Returns the status bytes that are written in the lane of a group.
     #[inline(always)]
     pub fn statuses(&self, group: U4) -> Statuses
         ensures { result ≡ statuses_in self.now.style (lane_at self.now.states group) }
@@ -156,7 +157,7 @@ impl KeptLanes {
         }
     }
 
-    /// Whether the receiver of a group's lane has both halves of this bank (MIDI 1.0 Detailed
+    /// Returns whether the receiver of a group's lane has both halves of this bank (MIDI 1.0 Detailed
     /// Specification, bank select). Always `false` in plain style.
     pub fn have_bank(&self, group: U4, channel: U4, bank: &Bank) -> bool
         ensures { result ≡ is_there self.now.style
@@ -180,9 +181,9 @@ impl KeptLanes {
         }
     }
 
-    /// Adds the bytes of a voice message of MIDI 1.0 to a piece, in compact style without its status byte
-    /// if that is the running status, and keeps the state after it (MIDI 1.0 Detailed Specification,
-    /// running status). For a packet that one message carries, only this call asks for the style.
+    /// Appends the bytes of a MIDI 1.0 voice message to a piece, in compact style without its status byte
+    /// if that is the running status, and stores the state after it (MIDI 1.0 Detailed Specification,
+    /// running status). For a packet that is translated into one message, only this call tests the style.
     #[inline(always)]
     pub fn write(&mut self, piece: &mut Piece, group: U4, message: &Voice1)
         requires { length piece.old ≤ 9 }
@@ -202,8 +203,9 @@ impl KeptLanes {
         }
     }
 
-    /// Keeps what a parameter that is set leaves, with the status bytes that are written from now on: it is
-    /// selected (MIDI 1.0 Detailed Specification, registered and non-registered parameter numbers).
+    /// Stores the effect of setting a parameter, with the status bytes that are written from now on: the
+    /// parameter is selected (MIDI 1.0 Detailed Specification, registered and non-registered parameter
+    /// numbers).
     pub fn keep_set(&mut self, group: U4, statuses: Statuses, channel: U4, param: &Param)
         ensures { self.new ≡
             kept_by group statuses (at_registers_of channel (with_selected param.now)) self.old }
@@ -216,8 +218,8 @@ impl KeptLanes {
         }
     }
 
-    /// Keeps what a program change leaves, with the status bytes that are written from now on: the channel
-    /// has its bank (MIDI 1.0 Detailed Specification, bank select).
+    /// Stores the effect of a program change, with the status bytes that are written from now on: the
+    /// channel has its bank (MIDI 1.0 Detailed Specification, bank select).
     pub fn keep_program(&mut self, group: U4, statuses: Statuses, channel: U4, bank: Bank)
         ensures { self.new ≡ kept_by group statuses (at_registers_of channel (with_bank bank)) self.old }
     {
@@ -229,7 +231,7 @@ impl KeptLanes {
         }
     }
 
-    /// Keeps the status bytes that are written from now on: a pair leaves the registers as they are.
+    /// Stores the status bytes that are written from now on. A pair leaves the registers unchanged.
     pub fn keep_statuses(&mut self, group: U4, statuses: Statuses)
         ensures { self.new ≡ kept_by group statuses (λ channels. channels) self.old }
     {
@@ -241,8 +243,8 @@ impl KeptLanes {
         }
     }
 
-    /// Whether a status byte is the running status of a group's lane in compact style; from now on it is
-    /// (MIDI 1.0 Detailed Specification, running status). The registers stay as they are.
+    /// Returns whether a status byte is the running status of a group's lane in compact style, and makes it
+    /// the running status (MIDI 1.0 Detailed Specification, running status). The registers are unchanged.
     #[inline(always)]
     pub fn take_status(&mut self, group: U4, status: u8) -> bool
         requires { is_plain self.old.style ≡ false }
@@ -253,8 +255,8 @@ impl KeptLanes {
         self.lanes[group.get() as usize].take_status(status)
     }
 
-    /// Keeps what a system message leaves (MIDI 1.0 Detailed
-    /// Specification, running status; System Reset by own rule).
+    /// Stores the effect of a system message (MIDI 1.0 Detailed Specification, running status; System Reset
+    /// by own rule).
     pub fn keep_system(&mut self, group: U4, message: &System)
         ensures { self.new ≡
             with_lane group (after_system message.now (lane_at self.old.states group)) self.old }
@@ -265,9 +267,9 @@ impl KeptLanes {
         }
     }
 
-    /// Keeps what a part of an exclusive leaves, before the groups take it: the end of one that isn't refused
-    /// ends the running status (MIDI 1.0 Detailed Specification, running status). In plain style the groups
-    /// aren't asked.
+    /// Stores the effect of a part of an exclusive. Call it before the groups take the part. The end of an
+    /// exclusive that isn't refused ends the running status (MIDI 1.0 Detailed Specification, running
+    /// status). In plain style the groups aren't consulted.
     #[tactic(auto, using(crate::proofs::ExclusiveLaws::plain_part))]
     #[inline(always)]
     pub fn keep_part(&mut self, groups: &Groups, group: U4, form: Form, bytes: &[u8])

@@ -1,4 +1,4 @@
-// What is kept of a lane in compact style.
+// The state of a lane in compact style.
 ghost use Rattle.std.specs.Prelude.{◌≡◌, ◌<◌, ◌≤◌, ◌++◌, ℕ, IfOk, None, Some, length};
 ghost use Rattle.midi1_bytes.specs.Messages.{spelled_voice, voice};
 ghost use Rattle.midi1_bytes.specs.RunningStatus.{is_running, running_after, without_status};
@@ -23,8 +23,8 @@ use std::alloc::Global;
 use std::marker::Model;
 use voice_messages::{Bank, Param, System, U7, Voice1};
 
-/// What the receiver of a lane has since the lane's last System Reset: the running status, and the registers
-/// of sixteen channels. A contract sees it as the definition's state of a lane.
+/// The state in which a lane has left its receiver since the lane's last System Reset: the running status,
+/// and the registers of sixteen channels. In contracts its value is the definition's state of a lane.
 #[derive(Drop)]
 pub struct Lane {
     running: RunningStatus,
@@ -55,7 +55,8 @@ fn is_param(selected: Option<Param>, param: &Param) -> bool
 }
 
 impl Lane {
-    /// A lane of which nothing is written. `NoMemory` if there is none for the registers.
+    /// Creates a lane to which nothing has been written. Returns `NoMemory` if the memory for the registers
+    /// can't be allocated.
     pub fn new(alloc: Global) -> Result<Lane, NoMemory>
         ensures { IfOk result (λ lane. lane ≡ new_lane) }
     {
@@ -73,7 +74,7 @@ impl Lane {
         })
     }
 
-    /// The running status.
+    /// Returns the running status.
     #[inline(always)]
     pub fn running(&self) -> Option<u8>
         ensures { result ≡ self.now.running }
@@ -81,7 +82,8 @@ impl Lane {
         self.running.get()
     }
 
-    /// Whether both halves of the channel's bank are these (MIDI 1.0 Detailed Specification, bank select).
+    /// Returns whether both halves of the channel's bank are these (MIDI 1.0 Detailed Specification, bank
+    /// select).
     pub fn has_bank(&self, channel: U4, bank: &Bank) -> bool
         ensures { result ≡ has_bank (registers_at self.now.channels channel) bank.now }
     {
@@ -89,16 +91,17 @@ impl Lane {
         is_half(registers.bank_msb(), bank.msb) && is_half(registers.bank_lsb(), bank.lsb)
     }
 
-    /// Whether this is the channel's selected parameter (MIDI 1.0 Detailed Specification, registered and
-    /// non-registered parameter numbers).
+    /// Returns whether this is the channel's selected parameter (MIDI 1.0 Detailed Specification,
+    /// registered and non-registered parameter numbers).
     pub fn has_selected(&self, channel: U4, param: &Param) -> bool
         ensures { result ≡ is_selected (registers_at self.now.channels channel) param.now }
     {
         is_param(self.channels[channel.get() as usize].selected(), param)
     }
 
-    /// Adds the bytes of a voice message of MIDI 1.0 to a piece, without its status byte if that is the
-    /// running status, and keeps what the message leaves (MIDI 1.0 Detailed Specification, running status).
+    /// Appends the bytes of a MIDI 1.0 voice message to a piece, without its status byte if that is the
+    /// running status, and stores the effect of the message (MIDI 1.0 Detailed Specification, running
+    /// status).
     #[inline(always)]
     pub fn write(&mut self, piece: &mut Piece, message: &Voice1, bytes: &[u8])
         requires spelled { bytes.now ≡ spelled_voice message.now }
@@ -114,8 +117,8 @@ impl Lane {
         self.keep_registers(message);
     }
 
-    /// Whether a status byte is the running status; from now on it is
-    /// (MIDI 1.0 Detailed Specification, running status).
+    /// Returns whether a status byte is the running status, and makes it the running status (MIDI 1.0
+    /// Detailed Specification, running status).
     #[inline(always)]
     pub fn take_status(&mut self, status: u8) -> bool
         ensures running { result ≡ is_running self.old.running status }
@@ -141,7 +144,8 @@ impl Lane {
         }
     }
 
-    // Out of line, so that what control changes alone need doesn't take the registers of the loops.
+    // This function is out of line, so that the code that only control changes need doesn't occupy the
+    // registers of the loops.
     #[inline(never)]
     fn keep_control(&mut self, channel: U4, index: U7, value: U7)
         ensures { self.new ≡ record {
@@ -152,7 +156,7 @@ impl Lane {
         self.channels[channel.get() as usize].control(index, value);
     }
 
-    /// Keeps the running status, and that a parameter is selected.
+    /// Stores the running status, and that a parameter is selected.
     pub fn keep_set(&mut self, running: Option<u8>, channel: U4, param: &Param)
         ensures { self.new ≡ record {
           running = running;
@@ -163,14 +167,14 @@ impl Lane {
         self.channels[channel.get() as usize].select(param);
     }
 
-    /// Keeps the running status.
+    /// Stores the running status.
     pub fn keep_running(&mut self, running: Option<u8>)
         ensures { self.new ≡ record { running = running; channels = self.old.channels } }
     {
         self.running = RunningStatus::of(running);
     }
 
-    /// Keeps the running status, and a bank.
+    /// Stores the running status, and a bank.
     pub fn keep_program(&mut self, running: Option<u8>, channel: U4, bank: Bank)
         ensures { self.new ≡ record {
           running = running;
@@ -181,8 +185,9 @@ impl Lane {
         self.channels[channel.get() as usize].take_bank(bank);
     }
 
-    /// Keeps what a system message leaves: a common one ends the running status, Real Time leaves it (MIDI
-    /// 1.0 Detailed Specification, running status), and after System Reset nothing is kept (own rule).
+    /// Stores the effect of a system message: a common one ends the running status, Real Time leaves it
+    /// unchanged (MIDI 1.0 Detailed Specification, running status), and System Reset clears the state (own
+    /// rule).
     pub fn keep_system(&mut self, message: &System)
         ensures { self.new ≡ after_system message.now self.old }
     {
@@ -202,7 +207,7 @@ impl Lane {
         self.running = RunningStatus::none();
     }
 
-    /// Forgets the running status and the registers: nothing is written of the lane.
+    /// Forgets the running status and the registers: nothing has been written to the lane.
     #[tactic(auto, using(crate::proofs::UnsetLaws::none_set))]
     pub fn forget(&mut self)
         ensures { self.new ≡ new_lane }

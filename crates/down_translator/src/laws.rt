@@ -1,5 +1,5 @@
-// What holds of all recordings, with paired controllers or without.
-// Packets and answers are listed newest first.
+// Laws that hold for all recordings, with or without paired controllers. Packets and results are listed
+// newest first.
 ghost use Rattle.std.specs.Prelude.{◌≡◌, ◌↔◌, ◌<◌, ◌≤◌, ℕ, Bool, List, [], length, reverse, Some, IsTrue};
 ghost use Rattle.ump_grammar.specs.declared.packet.Packet.{Packet};
 ghost use Rattle.midi_meaning.specs.Parts.{Placed};
@@ -36,24 +36,24 @@ use midi_meaning::style_laws::{
 use midi1_bytes::laws::statuses_that_run_can_be_left_out;
 use sysex_groups::laws::fed_parts_are_the_definition;
 
-/// A packet that some words spell has its fields in range.
+/// Proves that a packet that some words encode has its fields in range.
 pub fn spelled_packets_are_in_range()
     ensures { SpelledPacketsAreInRange }
 {}
 
-/// The state of the translator after any packets determines what the definitions find by looking back over
-/// these packets: for one more packet, the exclusive that it ends, where the open exclusive of its group
-/// started, and why it is refused. With that packet the state becomes the one after all of them. A data
-/// increment or decrement, which is refused, leaves the state unchanged.
+/// Proves that the state of the translator after any packets determines everything that the definitions
+/// find by looking back over these packets: for one more packet, the exclusive that it ends, the start of
+/// the open exclusive of its group, and the reason for a refusal. With that packet, the state becomes the
+/// one after all of them. A data increment or decrement, which is refused, leaves the state unchanged.
 pub fn what_is_held_is_the_definition()
     ensures { (paired : Bool) → WhatIsHeldIsTheDefinition paired }
 {
     fed_parts_are_the_definition();
 }
 
-/// In compact style, after packets of which none was refused, what the translator keeps of a group's lane
-/// is the running status and the registers that the lane's bytes after the last System Reset leave. If one
-/// of these is set, all bytes of the lane leave the same value.
+/// Proves that, in compact style and if no packet was refused, the translator's state of a group's lane is
+/// the running status and the registers that the lane's bytes after the last System Reset leave. If one of
+/// these is set, all bytes of the lane leave the same value.
 pub fn what_is_kept_is_the_meaning()
     ensures { (paired : Bool) → WhatIsKeptIsTheMeaning paired }
 {
@@ -64,7 +64,8 @@ pub fn what_is_kept_is_the_meaning()
     styled_lanes_leave_the_registers();
 }
 
-/// An answer's piece is empty exactly when its packet isn't carried, and the lane is then 0.
+/// Proves that the piece of a result is empty exactly if the packet isn't translated, and that the lane is
+/// then 0.
 pub fn empty_pieces_are_not_carried()
     ensures carried { (state : DownState) (offset : ℕ) (packet : Packet) (carried : Carried) →
         IsStep state offset packet carried →
@@ -76,8 +77,9 @@ pub fn empty_pieces_are_not_carried()
     carried_packets_have_a_piece();
 }
 
-/// After any accepted packets, if the translator accepts one more, it writes that packet's pair in the
-/// translator's style and reports that packet's line. A limit that isn't exceeded doesn't affect the line.
+/// Proves that, after any accepted packets, if the translator accepts one more, it writes that packet's
+/// pair in the translator's style and reports that packet's line. A limit that isn't exceeded doesn't
+/// affect the line.
 pub fn one_more_accepted_packet_adds_its_pair_and_line()
     ensures { (paired : Bool) → OneMoreAcceptedPacketAddsItsPairAndLine paired }
 {
@@ -89,8 +91,9 @@ pub fn one_more_accepted_packet_adds_its_pair_and_line()
     statuses_that_run_can_be_left_out();
 }
 
-/// The answers to the packets of a recording, one after the other: no packet is refused, what is put is the
-/// pairs of the packets in the translator's style, and what is listed is their lines.
+/// Proves, for the results of the packets of a recording, one after the other, that no packet is refused,
+/// that the pairs written are the pairs of the packets in the translator's style, and that the lines
+/// reported are the lines of the packets.
 pub fn answers_are_the_translation()
     ensures accepted { (paired : Bool) (style : Style) (room : ℕ)
         (past : List Placed) (answers : List Carried) →
@@ -108,9 +111,10 @@ pub fn answers_are_the_translation()
     one_more_accepted_packet_adds_its_pair_and_line();
 }
 
-/// For a recording in the order in which its packets come, what is put for the answers is its pairs in the
-/// translator's style. They are its translation: one pair for each packet that is carried, in its group's
-/// lane, and after each packet the bytes so far of each lane mean what the packets so far of its group mean.
+/// Proves that the results for a recording, in the order in which its packets come, are its translation:
+/// the pairs written are the pairs of the recording in the translator's style. There is one pair for each
+/// packet that is translated, in its group's lane. After each packet, the bytes of each lane so far mean
+/// what the packets of its group so far mean.
 pub fn answers_mean_the_packets()
     ensures pairs { (paired : Bool) (style : Style) (room : ℕ)
         (packets : List Placed) (answers : List Carried) →

@@ -1,5 +1,8 @@
-//! Turns packets of the Universal MIDI Packet format into the bytes of MIDI 1.0 streams, one stream (lane)
-//! per group.
+//! Translates packets of the Universal MIDI Packet format down to the bytes of MIDI 1.0 streams, one stream
+//! (lane) per group.
+//!
+//! Start with [`Down`]: `new` allocates, and `packet` translates one packet and returns a [`Carried`],
+//! which has the bytes, the lane and the line. [`Style`] is the way in which the bytes are written.
 #![tactic(auto)]
 
 pub mod carried;

@@ -1,4 +1,4 @@
-// The kinds of the lines of MIDI 2.0 voice messages.
+// The kinds of lines for MIDI 2.0 voice messages.
 ghost use Rattle.std.specs.Prelude.{◌≡◌, if◌then◌else◌, true, false, Some, None};
 ghost use Rattle.std.specs.Option.{option_map};
 ghost use Rattle.midi_meaning.specs.declared.listed.Kind.TheVariants as kinds;
@@ -21,8 +21,8 @@ fn attribute_kind(attribute_type: u8) -> Option<Kind>
     }
 }
 
-/// The kind of a control change whose index has packets of its own in
-/// MIDI 2.0, apart from the refused ones, without pairs.
+/// Returns the kind of line for a control change whose index has its own packets in MIDI 2.0, except for
+/// the refused ones, without pairs.
 #[inline(always)]
 fn control_kind(index: U7) -> Option<Kind>
     ensures { result ≡ control_kind (pairing false (role_of index)) }
@@ -38,7 +38,7 @@ fn control_kind(index: U7) -> Option<Kind>
     }
 }
 
-/// The same if controllers are paired, with the LSB of a pair (own rules).
+/// Returns the same with paired controllers, which also lists the LSB of a pair (own rules).
 pub fn paired_kind(index: U7) -> Option<Kind>
     ensures { result ≡ control_kind (pairing true (role_of index)) }
 {
@@ -58,7 +58,7 @@ fn set_kind(param: &Param) -> Option<Kind>
     }
 }
 
-/// The kind of a relative parameter, which may be the null parameter.
+/// Returns the kind of line for a relative parameter, which may be the null parameter.
 #[inline(always)]
 pub fn shift_kind(is_null: bool) -> Kind
     ensures { result ≡ shift_kind is_null }
@@ -70,8 +70,8 @@ pub fn shift_kind(is_null: bool) -> Kind
     }
 }
 
-/// The kind that a MIDI 2.0 voice message is listed as, if it is listed, without paired controllers (own
-/// rules). Inlined, since a packet that a call sees a part of would not stay in registers.
+/// Returns the kind of line for a MIDI 2.0 voice message, if it is listed, without paired controllers (own
+/// rules). The function is inlined, since a packet doesn't stay in registers if a call sees a part of it.
 #[inline(always)]
 pub fn voice_kind(message: &Voice2) -> Option<Kind>
     ensures { result ≡ voice_kind false message.now }
@@ -90,7 +90,7 @@ pub fn voice_kind(message: &Voice2) -> Option<Kind>
     }
 }
 
-/// The line of a packet of this group, if it has a kind.
+/// Returns the line of a packet of this group, if it has a kind.
 pub fn line(offset: u64, group: U4, kind: Option<Kind>) -> Option<Listed>
     ensures { result ≡ option_map (λ kind. record { offset = offset; group = Some group; kind = kind }) kind }
 {

@@ -1,4 +1,4 @@
-// Messages that one MIDI 1.0 message with their status byte carries.
+// Packets that are translated into one MIDI 1.0 message, with its status byte.
 ghost use Rattle.std.specs.Prelude.{◌≡◌};
 ghost use Rattle.encoded_packets.specs.DirectMessages.{IsDirectMessage};
 ghost use Rattle.midi1_bytes.specs.Messages.{spelled_voice};
@@ -9,7 +9,7 @@ use encoded_packets::{DirectKind, DirectMessage};
 use small_types::U4;
 use voice_messages::U7;
 
-/// A MIDI 1.0 channel voice message with its status byte, which alone carries a packet.
+/// A MIDI 1.0 channel voice message with its status byte. It alone expresses a packet.
 #[derive(Clone, Copy, Debug)]
 pub struct LoweredMessage {
     /// The lane, which is the packet's group.
@@ -18,15 +18,15 @@ pub struct LoweredMessage {
     pub status: u8,
     /// The first data byte.
     pub first: U7,
-    /// The second data byte; none exactly in a channel pressure or a program change.
+    /// The second data byte, or `None` exactly in a channel pressure or a program change.
     pub second: Option<U7>,
-    /// Whether it leaves out the attribute of a note, which is listed.
+    /// Whether the message leaves out the attribute of a note, which is listed.
     pub has_attribute: bool,
 }
 
-// The data bytes, by the kind: the note or the index, and the value; of a bend the low and the high seven
-// bits of its value, of a channel pressure the value alone. Branchless, since the kind of the next message
-// can't be predicted; only a channel pressure, which has one data byte, takes a branch.
+// Returns the data bytes, by the kind: the note or the index, and the value. For a bend they are the low
+// and the high seven bits of the value, for a channel pressure the value alone. The kind of the next
+// message can't be predicted, so only a channel pressure, which has one data byte, takes a branch.
 #[inline(always)]
 fn data_bytes(kind: DirectKind, message: &DirectMessage) -> (U7, Option<U7>)
     ensures first { result.0 ≡ first_by kind message.now }
@@ -52,7 +52,7 @@ fn data_bytes(kind: DirectKind, message: &DirectMessage) -> (U7, Option<U7>)
     }
 }
 
-// Whether it is a note off or on.
+// Returns whether the kind is a note off or on.
 #[inline(always)]
 fn is_note(kind: DirectKind) -> bool
     ensures { result ≡ is_note kind }
@@ -60,7 +60,8 @@ fn is_note(kind: DirectKind) -> bool
     matches!(kind, DirectKind::NoteOff | DirectKind::NoteOn)
 }
 
-/// The message that carries a direct message (M2-104-UM, default translation; M2-115-U).
+/// Returns the message into which a direct message is translated (M2-104-UM, default translation;
+/// M2-115-U).
 #[tactic(auto, using(crate::proofs::LoweredLaws::spelled_lowered))]
 #[inline(always)]
 pub fn lowered(message: &DirectMessage) -> LoweredMessage

@@ -1,4 +1,4 @@
-// Messages of the MIDI 1.0 protocol, read from the word of their packet.
+// MIDI 1.0 messages, read from the word of their packet.
 ghost use Rattle.std.specs.Prelude.{◌≡◌, ◌<◌, ◌%◌, ◌==◌, ◌||◌, if◌then◌else◌, MatchOption, Some, None, false, length};
 ghost use Rattle.ump_grammar.specs.WordFields.{byte as place, group_of, opcode_of};
 ghost use Rattle.down_translator.specs.Midi1.{CarriesMidi1, begins_midi1, control_index, is_midi1};
@@ -9,8 +9,8 @@ use ump_grammar::fields::{bits, byte, nibble};
 use ump_grammar::laws::spelled_packets_fit;
 use voice_messages::U7;
 
-/// The channel voice message that the packet is, if it is one of the MIDI 1.0 protocol, with its bytes
-/// (M2-104-UM, MIDI 1.0 channel voice messages); `None` exactly for other packets.
+/// Returns the channel voice message in the packet, with its bytes, if it is one of the MIDI 1.0 protocol
+/// (M2-104-UM, MIDI 1.0 channel voice messages), or `None` exactly for other packets.
 #[inline(always)]
 pub fn midi1_message(packet: &EncodedPacket) -> Option<LoweredMessage>
     ensures { MatchOption result (is_midi1 packet.now ≡ false)
@@ -25,7 +25,7 @@ pub fn midi1_message(packet: &EncodedPacket) -> Option<LoweredMessage>
     }
 }
 
-// Whether these words begin with the type and the opcode of such a message.
+// Returns whether these words begin with the type and the opcode of such a message.
 #[inline(always)]
 fn begins_midi1(words: &[u32]) -> bool
     requires { 0 < length words.now }
@@ -35,7 +35,7 @@ fn begins_midi1(words: &[u32]) -> bool
     (bits(first, 28, 4) == 2) & (bits(first, 20, 4) >= 0x8) & (bits(first, 20, 4) <= 0xE)
 }
 
-// The message in these words.
+// Returns the message in these words.
 #[inline(always)]
 fn message_in(words: &[u32]) -> LoweredMessage
     requires { 0 < length words.now }
@@ -61,7 +61,7 @@ fn message_in(words: &[u32]) -> LoweredMessage
     }
 }
 
-/// The index of a control change; of another message that of a control change that is direct.
+/// Returns the index of a control change, or the index of a direct control change for any other message.
 #[inline(always)]
 pub fn message_index(message: &LoweredMessage) -> U7
     ensures { result ≡ control_index message.now }

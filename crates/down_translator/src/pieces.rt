@@ -48,8 +48,8 @@ fn fill_system(piece: &mut Piece, message: &System)
     piece.extend(bytes.as_slice());
 }
 
-/// Whether a control change of MIDI 2.0 is carried by one of MIDI
-/// 1.0, whether controllers are paired or not.
+/// Returns whether a MIDI 2.0 control change is translated into one of MIDI 1.0, with controllers paired or
+/// not.
 #[inline(always)]
 pub fn is_single_index(index: U7, paired: bool) -> bool
     ensures { result ≡ is_single (pairing paired (role_of index)) }
@@ -60,8 +60,8 @@ pub fn is_single_index(index: U7, paired: bool) -> bool
     }
 }
 
-/// Adds both halves of a pair: the MSB of its value of 14 bits, and
-/// the LSB, whose index is higher by 32 (own rule).
+/// Appends both halves of a pair: the MSB of its value of 14 bits, and the LSB, whose index is higher by 32
+/// (own rule).
 fn add_pair(piece: &mut Piece, statuses: &mut Statuses, channel: U4, index: U7, value: U14)
     requires empty { piece.old ≡ [] }
     requires within { index + 32 < 128 }
@@ -74,8 +74,8 @@ fn add_pair(piece: &mut Piece, statuses: &mut Statuses, channel: U4, index: U7, 
     statuses.add(piece, &control(channel, index + 32, U7::low_bits(value)));
 }
 
-/// Adds the control changes that set a parameter: its number, 101 and 100 or 99 and 98, unless that is
-/// selected, and its value of 14 bits, 6 and 38 (MIDI 1.0 Detailed Specification, registered and
+/// Appends the control changes that set a parameter: its number, 101 and 100 or 99 and 98, unless it is
+/// already selected, and its value of 14 bits, 6 and 38 (MIDI 1.0 Detailed Specification, registered and
 /// non-registered parameter numbers).
 fn add_set(
     piece: &mut Piece,
@@ -104,8 +104,8 @@ fn add_set(
     statuses.add(piece, &control(channel, 38, U7::low_bits(value)));
 }
 
-/// Adds a program change, after its bank, 0 and 32, unless that is
-/// set (MIDI 1.0 Detailed Specification, bank select).
+/// Appends a program change, after its bank, 0 and 32, unless the bank is already set (MIDI 1.0 Detailed
+/// Specification, bank select).
 fn add_program(
     piece: &mut Piece,
     statuses: &mut Statuses,
@@ -127,8 +127,8 @@ fn add_program(
     statuses.add(piece, &Voice1::Program { channel, program });
 }
 
-/// The one message that is the plain piece of a MIDI 2.0 voice message without pairs; `None` exactly when the
-/// piece has none or several.
+/// Returns the one message that is the plain piece of a MIDI 2.0 voice message without pairs, or `None`
+/// exactly if the piece has no message or several.
 #[tactic(auto, using(crate::proofs::PieceLaws::single_control, crate::proofs::PieceLaws::no_single_control))]
 #[inline(always)]
 fn single_message(message: &Voice2) -> Option<Voice1>
@@ -169,8 +169,8 @@ fn single_message(message: &Voice2) -> Option<Voice1>
     })
 }
 
-/// Writes a voice message of MIDI 1.0 into the lane of a group (MIDI
-/// 1.0 Detailed Specification, channel voice messages).
+/// Writes a MIDI 1.0 voice message to the lane of a group (MIDI 1.0 Detailed Specification, channel voice
+/// messages).
 #[tactic(auto, using(crate::proofs::PieceLaws::piece1, crate::proofs::PieceLaws::kept1))]
 #[inline(always)]
 pub fn write_voice1(piece: &mut Piece, lanes: &mut KeptLanes, group: U4, message: &Voice1)
@@ -183,7 +183,7 @@ pub fn write_voice1(piece: &mut Piece, lanes: &mut KeptLanes, group: U4, message
     lanes.write(piece, group, message);
 }
 
-/// Writes the control changes that set a parameter, none if that is the null parameter (M2-104-UM, default
+/// Writes the control changes that set a parameter, or none for the null parameter (M2-104-UM, default
 /// translation of registered and assignable controllers).
 #[tactic(auto, using(crate::proofs::PieceLaws::piece_set, crate::proofs::PieceLaws::kept_set, crate::proofs::PieceLaws::null_piece, crate::proofs::PieceLaws::null_kept))]
 #[inline(never)]
@@ -259,9 +259,9 @@ fn write_pair(
     lanes.keep_statuses(group, statuses);
 }
 
-/// Writes a control change of MIDI 2.0 if controllers are paired: both halves of a pair, and nothing if it
-/// isn't carried (own rule). Returns why it is refused, if it is refused; then nothing is written. Out of
-/// line, so that without pairs the packets of all kinds are translated in few instructions.
+/// Writes a MIDI 2.0 control change if controllers are paired: both halves of a pair, and nothing if it
+/// isn't translated (own rule). If it is refused, returns the reason and writes nothing. The function is
+/// out of line, so that without pairs the packets of all kinds are translated in few instructions.
 #[tactic(auto, using(crate::proofs::PieceLaws::single_piece, crate::proofs::PieceLaws::kept_single, crate::proofs::PieceLaws::single_control, crate::proofs::PieceLaws::control_piece, crate::proofs::PieceLaws::kept_control))]
 #[inline(never)]
 pub fn write_paired(
@@ -294,8 +294,8 @@ pub fn write_paired(
     None
 }
 
-/// Writes a message that is carried by several messages or by none. Several are written out of line, by
-/// calls that see only fields of the message, so that a packet stays in registers.
+/// Writes a message that is translated into several messages or into none. Several messages are written out
+/// of line, by calls that see only fields of the message, so that a packet stays in registers.
 #[tactic(auto, using(crate::proofs::PieceLaws::no_piece, crate::proofs::PieceLaws::kept_none))]
 #[inline(always)]
 fn write_others(piece: &mut Piece, lanes: &mut KeptLanes, group: U4, message: &Voice2)
@@ -321,9 +321,10 @@ fn write_others(piece: &mut Piece, lanes: &mut KeptLanes, group: U4, message: &V
     }
 }
 
-/// Writes a voice message of MIDI 2.0, except for a control change if controllers are paired, into the
-/// lane of a group, nothing if it isn't carried (M2-104-UM, default translation). One that is carried by a
-/// single message is written as that one, so that most packets of both protocols are written in one place.
+/// Writes a MIDI 2.0 voice message, except for a control change if controllers are paired, to the lane of a
+/// group, or nothing if it isn't translated (M2-104-UM, default translation). A message that is translated
+/// into a single message is written as that one, so that most packets of both protocols are written in one
+/// place.
 #[tactic(auto, using(crate::proofs::PieceLaws::alone, crate::proofs::PieceLaws::unpaired_piece, crate::proofs::PieceLaws::kept_unpaired))]
 #[inline(always)]
 pub fn write_voice2(piece: &mut Piece, lanes: &mut KeptLanes, group: U4, message: &Voice2)
@@ -339,7 +340,7 @@ pub fn write_voice2(piece: &mut Piece, lanes: &mut KeptLanes, group: U4, message
     }
 }
 
-/// Writes a system message into the lane of a group (MIDI 1.0 Detailed Specification, system common and
+/// Writes a system message to the lane of a group (MIDI 1.0 Detailed Specification, system common and
 /// system Real Time messages).
 #[tactic(auto, using(crate::proofs::PieceLaws::piece_system, crate::proofs::PieceLaws::kept_system))]
 pub fn write_system(piece: &mut Piece, lanes: &mut KeptLanes, group: U4, message: &System)

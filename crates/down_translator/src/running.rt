@@ -4,11 +4,11 @@ ghost use Rattle.midi1_bytes.specs.RunningStatus.{is_running};
 
 use std::marker::Model;
 
-/// The running status of a lane, or none, as one number, so that one comparison decides whether a status
-/// byte equals it. A contract sees the status byte, if there is one.
+/// The running status of a lane, if there is one, as a single number, so that one comparison decides
+/// whether a status byte equals it. In contracts its value is the status byte, if there is one.
 #[derive(Drop)]
 pub struct RunningStatus {
-    // The status byte; 256 if there is none.
+    // The status byte, or 256 if there is none.
     number: u16,
 }
 
@@ -24,7 +24,7 @@ impl Model for RunningStatus {
 }
 
 impl RunningStatus {
-    /// No running status.
+    /// Creates a value without a running status.
     #[inline(always)]
     pub fn none() -> RunningStatus
         ensures { result ≡ None }
@@ -32,7 +32,7 @@ impl RunningStatus {
         RunningStatus { number: 256 }
     }
 
-    /// This status byte as the running status.
+    /// Creates a value with this status byte as the running status.
     #[tactic(auto, using(crate::proofs::RunningLaws::some_running))]
     #[inline(always)]
     pub fn some(status: u8) -> RunningStatus
@@ -43,7 +43,7 @@ impl RunningStatus {
         }
     }
 
-    /// This status byte as the running status, or none.
+    /// Creates a value with this status byte, or none, as the running status.
     #[inline(always)]
     pub fn of(status: Option<u8>) -> RunningStatus
         ensures { result ≡ status }
@@ -54,7 +54,7 @@ impl RunningStatus {
         }
     }
 
-    /// The status byte, if there is one.
+    /// Returns the status byte, if there is one.
     #[inline(always)]
     pub fn get(&self) -> Option<u8>
         ensures { result ≡ self.now }
@@ -66,7 +66,8 @@ impl RunningStatus {
         }
     }
 
-    /// Whether it is this status byte; from now on it is (MIDI 1.0 Detailed Specification, running status).
+    /// Returns whether this status byte is the running status, and makes it the running status (MIDI 1.0
+    /// Detailed Specification, running status).
     #[tactic(auto, using(crate::proofs::RunningLaws::same_running, crate::proofs::RunningLaws::some_running))]
     #[inline(always)]
     pub fn take(&mut self, status: u8) -> bool

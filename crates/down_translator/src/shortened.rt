@@ -6,25 +6,25 @@ ghost use Rattle.down_translator.specs.Lowered.{index_by};
 use encoded_packets::{DirectKind, DirectMessage};
 use voice_messages::{U4, U7};
 
-/// A MIDI 1.0 channel voice message in compact style, which alone carries a packet.
+/// A MIDI 1.0 channel voice message in compact style. It alone expresses a packet.
 #[derive(Clone, Copy, Debug)]
 pub struct ShortenedMessage {
     /// The lane, which is the packet's group.
     pub lane: U4,
     /// The status byte, 80 to EF.
     pub status: u8,
-    /// Whether the status byte is left out, since it is the running status of the lane.
+    /// Whether the status byte is left out because it is the running status of the lane.
     pub is_running: bool,
     /// The first data byte.
     pub first: U7,
-    /// The second data byte; none exactly in a channel pressure or a program change.
+    /// The second data byte, or `None` exactly in a channel pressure or a program change.
     pub second: Option<U7>,
-    /// Whether it leaves out the attribute of a note, which is listed.
+    /// Whether the message leaves out the attribute of a note, which is listed.
     pub has_attribute: bool,
 }
 
-/// The index of a control change. For another message it is the index of a control change that is direct,
-/// so that the look-up needs no branch: the kind of the next message can't be predicted.
+/// Returns the index of a control change, or the index of a direct control change for any other message. So
+/// the look-up needs no branch: the kind of the next message can't be predicted.
 #[inline(always)]
 pub fn control_index(message: &DirectMessage) -> U7
     ensures { result ≡ index_by (kind_by (message.now.status / 16)) message.now }

@@ -1,4 +1,4 @@
-// Which status bytes are written.
+// The status bytes that are written.
 ghost use Rattle.std.specs.Prelude.{◌≡◌, ◌<◌, ◌≤◌, ◌+◌, ◌++◌, ◌∷◌, [], if◌then◌else◌, length};
 ghost use Rattle.midi1_bytes.specs.Messages.{voice};
 ghost use Rattle.midi1_bytes.specs.RunningStatus.{is_running, without_status};
@@ -8,18 +8,18 @@ use crate::pieces::Piece;
 use midi1_bytes::write_voice;
 use voice_messages::Voice1;
 
-/// Which status bytes of voice messages are written.
+/// The status bytes of voice messages that are written.
 #[derive(Clone, Copy, Debug)]
 pub enum Statuses {
-    /// All.
+    /// All status bytes.
     All,
-    /// Those that aren't the running status, which is this one (MIDI
-    /// 1.0 Detailed Specification, running status).
+    /// The status bytes that differ from the running status, which is this one (MIDI 1.0 Detailed
+    /// Specification, running status).
     Changes(Option<u8>),
 }
 
-/// Adds a status byte to a piece, unless it is the running status
-/// (MIDI 1.0 Detailed Specification, running status).
+/// Appends a status byte to a piece, unless it is the running status (MIDI 1.0 Detailed Specification,
+/// running status).
 #[inline(always)]
 fn add_status(piece: &mut Piece, running: Option<u8>, status: u8)
     requires { length piece.old < 12 }
@@ -30,9 +30,9 @@ fn add_status(piece: &mut Piece, running: Option<u8>, status: u8)
     }
 }
 
-/// Adds the bytes of a message to a piece, without its status byte if that is the running status (MIDI 1.0
-/// Detailed Specification, running status). All other bytes are added in one place, so that the message stays
-/// in registers.
+/// Appends the bytes of a message to a piece, without its status byte if that is the running status (MIDI
+/// 1.0 Detailed Specification, running status). All other bytes are appended in one place, so that the
+/// message stays in registers.
 #[tactic(auto, using(crate::proofs::PieceLaws::without_status_is))]
 #[inline(always)]
 pub fn add_unless_running(piece: &mut Piece, running: Option<u8>, bytes: &[u8])
@@ -45,7 +45,7 @@ pub fn add_unless_running(piece: &mut Piece, running: Option<u8>, bytes: &[u8])
 }
 
 impl Statuses {
-    /// Adds the bytes of a voice message to a piece.
+    /// Appends the bytes of a voice message to a piece.
     #[inline(always)]
     pub fn add(&mut self, piece: &mut Piece, message: &Voice1)
         requires { length piece.old ≤ 9 }

@@ -1,4 +1,4 @@
-// Packets that no message of MIDI 1.0 carries, recognized by their first word.
+// Packets that no MIDI 1.0 message expresses, recognized by their first word.
 ghost use Rattle.std.specs.Prelude.{◌≡◌, ◌<◌, ◌==◌, ◌&&◌, if◌then◌else◌, MatchOption, None, Some, length};
 ghost use Rattle.ump_grammar.specs.WordFields.{byte as place, group_of};
 ghost use Rattle.ump_grammar.specs.Spelling.{has_row, is_system_status as is_status};
@@ -17,17 +17,17 @@ use small_types::U4;
 use ump_grammar::fields::{bits, byte, nibble};
 use ump_grammar::laws::rows_are_not_reserved;
 
-/// How a packet that no message of MIDI 1.0 carries is listed.
+/// The line of a packet that no MIDI 1.0 message expresses.
 #[derive(Clone, Copy, Debug)]
 pub struct Uncarried {
-    /// Its group, if it has one.
+    /// The group of the packet, if it has one.
     pub group: Option<U4>,
-    /// The kind of its line.
+    /// The kind of the line.
     pub kind: Kind,
 }
 
-/// How the packet is listed, if no message of MIDI 1.0 carries it in any state of a translator (M2-104-UM,
-/// default translation; own rules); `None` exactly for other packets.
+/// Returns the line of the packet, if no MIDI 1.0 message expresses it in any state of a translator
+/// (M2-104-UM, default translation; own rules), or `None` exactly for other packets.
 #[inline(always)]
 pub fn read_uncarried(packet: &EncodedPacket) -> Option<Uncarried>
     ensures { MatchOption result (uncarried_kind packet.now ≡ None)
@@ -44,7 +44,7 @@ pub fn read_uncarried(packet: &EncodedPacket) -> Option<Uncarried>
     }
 }
 
-// The group in the first word, if packets of this kind have one.
+// Returns the group in the first word, if packets of this kind have one.
 #[inline(always)]
 fn group_in(words: &[u32], kind: Kind) -> Option<U4>
     requires { 0 < length words.now }
@@ -56,7 +56,7 @@ fn group_in(words: &[u32], kind: Kind) -> Option<U4>
     }
 }
 
-// The kind of the words of a packet.
+// Returns the kind of line for the words of a packet.
 #[inline(always)]
 fn kind_in(words: &[u32]) -> Option<Kind>
     requires { 0 < length words.now }
@@ -75,7 +75,7 @@ fn kind_in(words: &[u32]) -> Option<Kind>
     }
 }
 
-// Whether the words are of a row of the standard's tables, and not reserved (M2-104-UM).
+// Returns whether the words belong to a row of the standard's tables and aren't reserved (M2-104-UM).
 #[inline(always)]
 fn has_row(words: &[u32]) -> bool
     requires { 0 < length words.now }
@@ -93,7 +93,7 @@ fn has_row(words: &[u32]) -> bool
     }
 }
 
-// Whether a byte is the status of a system common or system Real Time message.
+// Returns whether a byte is the status of a system common or system Real Time message.
 fn is_system_status(status: u8) -> bool
     ensures { result ≡ is_status status }
 {
@@ -103,7 +103,7 @@ fn is_system_status(status: u8) -> bool
     )
 }
 
-// The kind of the words of a voice message of MIDI 2.0.
+// Returns the kind of line for the words of a MIDI 2.0 voice message.
 #[inline(always)]
 fn voice_kind_in(words: &[u32]) -> Option<Kind>
     requires { 0 < length words.now }
@@ -118,7 +118,7 @@ fn voice_kind_in(words: &[u32]) -> Option<Kind>
     }
 }
 
-// Whether the parameter in the words of a relative parameter is the null parameter.
+// Returns whether the parameter in the words of a relative parameter is the null parameter.
 #[inline(always)]
 fn has_null_parameter(words: &[u32]) -> bool
     requires { 0 < length words.now }

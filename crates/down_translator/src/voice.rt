@@ -1,5 +1,5 @@
-// Voice messages of MIDI 2.0 that are carried by one of MIDI 1.0, one
-// by one (M2-104-UM, default translation; M2-115-U).
+// Translates MIDI 2.0 voice messages that become one MIDI 1.0 message each (M2-104-UM, default translation;
+// M2-115-U).
 ghost use Rattle.std.specs.Prelude.{◌≡◌};
 ghost use Rattle.bit_scaling.specs.Scaling.{down7, down14, release_down, velocity_down};
 ghost use Rattle.voice_messages.specs.declared.voice1.Voice1.TheVariants as voice1;
@@ -18,7 +18,7 @@ pub fn lower_note_off(channel: U4, note: U7, velocity: u16) -> Voice1
     }
 }
 
-/// The velocity stays at least 1, since a note on of velocity 0 is a note off.
+/// Translates a note on. The velocity stays at least 1, since a note on of velocity 0 is a note off.
 #[inline(always)]
 pub fn lower_note_on(channel: U4, note: U7, velocity: u16) -> Voice1
     ensures { result ≡ voice1.NoteOn channel note (velocity_down velocity) }

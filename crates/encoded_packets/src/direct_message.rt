@@ -4,26 +4,26 @@ ghost use Rattle.encoded_packets.specs.DirectMessages.{is_direct_kind, kind_by};
 
 use voice_messages::{U4, U7};
 
-/// The kinds of direct messages, by the opcode of their packets (M2-104-UM, MIDI 2.0 channel voice messages).
+/// The kind of a direct message, by the opcode of its packet (M2-104-UM, MIDI 2.0 channel voice messages).
 #[derive(Clone, Copy, Debug)]
 pub enum DirectKind {
     /// Opcode 8.
     NoteOff,
     /// Opcode 9.
     NoteOn,
-    /// Opcode A, the pressure of a note.
+    /// Opcode A: the pressure of a note.
     PolyPressure,
-    /// Opcode B, a control change.
+    /// Opcode B: a control change.
     Control,
-    /// Opcode D, the pressure of a channel.
+    /// Opcode D: the pressure of a channel.
     Pressure,
-    /// Opcode E, the bend of a channel.
+    /// Opcode E: the bend of a channel.
     Bend,
-    /// The other opcodes, which no direct message has.
+    /// Any other opcode. No direct message has it.
     Other,
 }
 
-// The kinds of the opcodes 0 to F: a table, since the kind of the next message can't be predicted.
+// The kinds for opcodes 0 to F. This is a table, since the kind of the next message can't be predicted.
 static KINDS: [DirectKind; 16] = [
     DirectKind::Other,
     DirectKind::Other,
@@ -44,7 +44,7 @@ static KINDS: [DirectKind; 16] = [
 ];
 
 impl DirectKind {
-    /// The kind of the messages with this opcode, 0 to 15.
+    /// Returns the kind of the messages with this opcode, 0 to 15.
     #[inline(always)]
     pub fn of(opcode: u8) -> DirectKind
         requires { opcode < 16 }
@@ -53,7 +53,7 @@ impl DirectKind {
         KINDS[opcode as usize]
     }
 
-    /// Whether direct messages have it: all but `Other`.
+    /// Returns whether this is the kind of a direct message: any kind but `Other`.
     #[inline(always)]
     pub fn is_direct(self) -> bool
         ensures { result ≡ is_direct_kind self }
@@ -62,26 +62,27 @@ impl DirectKind {
     }
 }
 
-/// A channel voice message of the MIDI 2.0 protocol whose MIDI 1.0 counterpart has its status byte: a note
-/// off or on, the pressure of a note or of a channel, a control change, or a bend (M2-104-UM, opcodes 8 to
-/// B, D and E). Its fields are those of the packet.
+/// A MIDI 2.0 channel voice message whose MIDI 1.0 counterpart has the same status byte: a note off or on,
+/// the pressure of a note or channel, a control change, or a bend (M2-104-UM, opcodes 8 to B, D and E). Its
+/// fields are those of the packet.
 #[derive(Clone, Copy, Debug)]
 pub struct DirectMessage {
     /// The group, 0 to 15.
     pub group: U4,
-    /// The status byte: the opcode, 8 to B, D or E, above the channel, 0 to 15.
+    /// The status byte: the opcode (8 to B, D or E) in the upper half, and the channel, 0 to 15, in the
+    /// lower half.
     pub status: u8,
-    /// The number of the note, or the index of the control change; without meaning in other messages.
+    /// The number of the note, or the index of the control change. It has no meaning in other messages.
     pub index: U7,
-    /// The type of the attribute of a note off or on; without meaning in other messages.
+    /// The attribute type of a note off or on. It has no meaning in other messages.
     pub attribute_type: u8,
-    /// The value of 32 bits. A note off or on has its velocity in the
-    /// upper 16, and its attribute in the lower 16.
+    /// The value of 32 bits. In a note off or on, the velocity is the upper 16 bits and the attribute is
+    /// the lower 16.
     pub value: u32,
 }
 
 impl DirectMessage {
-    /// The kind, by the opcode in the status byte.
+    /// Returns the kind, by the opcode in the status byte.
     #[inline(always)]
     pub fn kind(&self) -> DirectKind
         ensures { result ≡ kind_by (self.now.status / 16) }

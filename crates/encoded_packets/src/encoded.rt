@@ -1,4 +1,4 @@
-// A packet as its words.
+// Packets stored as words.
 ghost use Rattle.std.specs.Prelude.{◌≡◌, ◌≢◌, ◌≤◌, ◌%◌, ◌==◌, ◌&&◌, ◌<◌, ◌∷◌, [], true, false, All, Ok, IfOk, IfSome, None};
 ghost use Rattle.std.specs.Prelude.{MatchOption, length, slice_index, take};
 ghost use Rattle.packet_words.specs.Words.{IsWhole};
@@ -28,7 +28,7 @@ use voice_messages::{U4, U7};
 #[derive(Drop)]
 pub struct EncodedPacket {
     words: Words,
-    // Determined once, when the packet is read.
+    // Determined once, when the packet is created.
     has_direct_kind: bool,
     is_part: bool,
     ghost packet: { ThePacket words } by { the_packet-prop words },
@@ -45,11 +45,14 @@ impl Model for EncodedPacket {
 }
 
 impl EncodedPacket {
-    /// The packet that the words encode (M2-104-UM); their number is that of the type in the first word.
-    /// `Err(BadCount)` is returned exactly if a 7-bit exclusive of form 0 to 3 counts more than six bytes.
-    /// `Err(HighBit)` is returned exactly if another packet has 128 or more in a byte that carries seven
-    /// bits. Of an exclusive only the counted bytes carry them, and the bank of a program only if the
-    /// packet has one.
+    /// Creates the packet that the words encode (M2-104-UM). The message type in the first word determines
+    /// how many words there are.
+    ///
+    /// * `Err(BadCount)` is returned exactly if a 7-bit exclusive of form 0 to 3 counts more than six
+    ///   bytes.
+    /// * `Err(HighBit)` is returned exactly if another packet has 128 or more in a byte that carries seven
+    ///   bits. In an exclusive, only the bytes that it counts carry seven bits. The bytes of a program's
+    ///   bank do so only if the packet has a bank.
     #[inline(always)]
     #[tactic(auto, using(crate::proofs::LowLaws::fine_low_part))]
     pub fn new(framed: &Framed) -> Result<EncodedPacket, Bad>
@@ -58,7 +61,7 @@ impl EncodedPacket {
         ensures fits { IfOk result IsPacket }
     {
         let first = framed.words.as_slice()[0];
-        // Most packets are such messages. Only other packets are decoded.
+        // Most packets are direct messages. Only other packets are decoded here.
         if begins_direct(first) && byte(first, 8) < 128 {
             return Ok(packet_of(&framed.words, true, false));
         }
@@ -69,15 +72,15 @@ impl EncodedPacket {
         Ok(packet_of(&framed.words, begins_direct(first), false))
     }
 
-    /// The packet that these two words encode (M2-104-UM), if a few of their bytes show that there is no
-    /// reason to refuse it:
+    /// Returns the packet that these two words encode (M2-104-UM), if a few of their bytes show that there
+    /// is no reason to refuse it:
     ///
-    /// - a direct message whose byte 3 is below 128;
-    /// - a 7-bit exclusive that counts at most six bytes, all six places of which are below 128, counted or
+    /// * a direct message whose byte 3 is below 128;
+    /// * a 7-bit exclusive that counts at most six bytes, all six places of which are below 128, counted or
     ///   not;
-    /// - another voice message of MIDI 2.0, except a program, whose bytes 3 and 4 are below 128.
+    /// * another voice message of MIDI 2.0, except a program, whose bytes 3 and 4 are below 128.
     ///
-    /// `None` for other words: `new` has their answer.
+    /// Returns `None` for other words: use `new` for them.
     #[inline(always)]
     #[tactic(auto, using(crate::proofs::LowLaws::fine_low_part, crate::proofs::LowLaws::fine_voice2))]
     pub fn of_two(first: u32, second: u32) -> Option<EncodedPacket>
@@ -99,9 +102,9 @@ impl EncodedPacket {
         None
     }
 
-    /// The packet that this word encodes, if it is a channel voice message of MIDI 1.0 whose bytes 3 and 4
-    /// are below 128 (M2-104-UM, MIDI 1.0 channel voice messages). `None` for other words: `new` has their
-    /// answer.
+    /// Returns the packet that this word encodes, if it is a MIDI 1.0 channel voice message whose bytes 3
+    /// and 4 are below 128 (M2-104-UM, MIDI 1.0 channel voice messages). Returns `None` for other words:
+    /// use `new` for them.
     #[inline(always)]
     pub fn of_one(first: u32) -> Option<EncodedPacket>
         ensures whole { IfSome result (λ _. IsWhole (first ∷ [])) }
@@ -116,7 +119,8 @@ impl EncodedPacket {
         }
     }
 
-    /// The words that encode the packet (M2-104-UM), 1 to 4 as the type in the first one says.
+    /// Returns the words that encode the packet (M2-104-UM). There are 1 to 4, as the message type in the
+    /// first one says.
     #[inline(always)]
     pub fn words(&self) -> &[u32]
         ensures { Decodes result.now (Ok self.now) }
@@ -124,7 +128,7 @@ impl EncodedPacket {
         self.words.as_slice()
     }
 
-    /// The packet, taken apart.
+    /// Decodes the packet to its fields.
     #[inline(always)]
     pub fn decode(&self) -> Packet
         ensures value { result ≡ self.now }
@@ -136,14 +140,14 @@ impl EncodedPacket {
         };
         match decode(&framed) {
             Ok(packet) => packet,
-            // The words decode to a packet: the type keeps this packet beside them.
+            // The type guarantees that the words decode to a packet.
             Err(_) => unreachable!(),
         }
     }
 
-    /// The packet as a part of an exclusive (M2-104-UM, system exclusive 7-bit messages), if all six places
-    /// of its words are below 128, counted or not. So a part of six bytes is always returned. `None` for
-    /// other packets, which `decode` reads.
+    /// Returns the packet as a part of an exclusive (M2-104-UM, system exclusive 7-bit messages), if all
+    /// six places of its words are below 128, counted or not. So a part of six bytes is always returned.
+    /// Returns `None` for other packets: use `decode` for them.
     #[inline(always)]
     pub fn exclusive(&self) -> Option<ExclusivePart>
         ensures { MatchOption result (is_full_part self.now ≡ false) (λ part. (part.count ≤ 6)
@@ -158,8 +162,8 @@ impl EncodedPacket {
         }
     }
 
-    /// The group and the six bytes of a packet that continues an exclusive by six bytes, each below 128
-    /// (M2-104-UM, system exclusive 7-bit messages); `None` exactly for all other packets.
+    /// Returns the group and the bytes of a packet that continues an exclusive by six bytes, each below 128
+    /// (M2-104-UM, system exclusive 7-bit messages), or `None` exactly for all other packets.
     #[inline(always)]
     pub fn continued(&self) -> Option<(U4, [u8; 6])>
         ensures { MatchOption result (continues_by_six self.now ≡ false) (λ part.
@@ -174,7 +178,7 @@ impl EncodedPacket {
         }
     }
 
-    /// The message, if its MIDI 1.0 counterpart has its status byte; `None` exactly for all other packets.
+    /// Returns the packet as a direct message, or `None` exactly for a packet that isn't one.
     #[inline(always)]
     pub fn direct_message(&self) -> Option<DirectMessage>
         ensures { MatchOption result (has_direct_kind self.now ≡ false) (λ message. IsDirectMessage message
@@ -189,7 +193,7 @@ impl EncodedPacket {
     }
 }
 
-// The packet that the words encode, with what was determined of it.
+// Creates the packet that the words encode, with the facts already determined about it.
 #[inline(always)]
 fn packet_of(words: &Words, has_direct_kind: bool, is_part: bool) -> EncodedPacket
     requires whole { IsWhole words.now }
@@ -208,7 +212,7 @@ fn packet_of(words: &Words, has_direct_kind: bool, is_part: bool) -> EncodedPack
     }
 }
 
-// The part of an exclusive in these words; `None` exactly if they have no form.
+// Returns the part of an exclusive in these words, or `None` exactly if their form is reserved.
 #[inline(always)]
 fn part_in(words: &[u32]) -> Option<ExclusivePart>
     requires { length words.now ≡ 2 }
@@ -226,8 +230,8 @@ fn part_in(words: &[u32]) -> Option<ExclusivePart>
     })
 }
 
-// The group and the bytes of these words, if their form is Continue and they count six bytes; `None`
-// exactly for others.
+// Returns the group and the bytes in these words if their form is Continue and they count six bytes, or
+// `None` exactly for all others.
 #[inline(always)]
 fn six_in(words: &[u32]) -> Option<(U4, [u8; 6])>
     requires { length words.now ≡ 2 }
@@ -243,7 +247,7 @@ fn six_in(words: &[u32]) -> Option<(U4, [u8; 6])>
     }
 }
 
-// Whether this is a 7-bit exclusive in which no byte is high, counted or not.
+// Returns whether this is a 7-bit exclusive in which no byte, counted or not, is 128 or more.
 #[inline(always)]
 fn is_low_part(words: &Words) -> bool
     requires { IsWhole words.now }
@@ -253,7 +257,7 @@ fn is_low_part(words: &Words) -> bool
     begins_part(words[0]) && has_low_bytes(words)
 }
 
-// Whether this is the first word of a 7-bit exclusive that counts at most six bytes.
+// Returns whether this is the first word of a 7-bit exclusive that counts at most six bytes.
 #[inline(always)]
 fn begins_part(first: u32) -> bool
     ensures { result ≡ begins_part first }
@@ -261,7 +265,7 @@ fn begins_part(first: u32) -> bool
     (bits(first, 28, 4) == 3) & (bits(first, 20, 4) <= 3) & (bits(first, 16, 4) <= 6)
 }
 
-// Whether no byte of six is high.
+// Returns whether all six bytes are below 128.
 #[inline(always)]
 fn has_low_bytes(words: &[u32]) -> bool
     requires { length words.now ≡ 2 }
@@ -275,7 +279,7 @@ fn has_low_bytes(words: &[u32]) -> bool
         & (byte(words[1], 0) < 128)
 }
 
-// The message in these words.
+// Returns the message in these words.
 #[inline(always)]
 fn message_in(words: &[u32]) -> DirectMessage
     requires { length words.now ≡ 2 }
@@ -295,7 +299,7 @@ fn message_in(words: &[u32]) -> DirectMessage
     }
 }
 
-// Whether this is the first word of a direct message.
+// Returns whether this is the first word of a direct message.
 #[inline(always)]
 fn begins_direct(first: u32) -> bool
     ensures { result ≡ (field first 28 4 == 4 && is_direct_opcode (field first 20 4)) }
@@ -303,8 +307,8 @@ fn begins_direct(first: u32) -> bool
     bits(first, 28, 4) == 4 && DirectKind::of(bits(first, 20, 4) as u8).is_direct()
 }
 
-// Whether this is the first word of a voice message of MIDI 2.0 without a program, of which bytes 3 and 4
-// are low.
+// Returns whether this is the first word of a MIDI 2.0 voice message other than a program change, with
+// bytes 3 and 4 below 128.
 #[inline(always)]
 fn is_low_voice2(first: u32) -> bool
     ensures { result ≡ begins_low_voice2 first }
@@ -315,7 +319,7 @@ fn is_low_voice2(first: u32) -> bool
         & (byte(first, 0) < 128)
 }
 
-// Whether this is the word of a channel voice message of MIDI 1.0 whose bytes 3 and 4 are low.
+// Returns whether this is the word of a MIDI 1.0 channel voice message with bytes 3 and 4 below 128.
 #[inline(always)]
 fn is_low_voice1(first: u32) -> bool
     ensures { result ≡ is_low_voice1 (first ∷ []) }

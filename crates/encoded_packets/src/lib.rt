@@ -1,4 +1,7 @@
-//! Packets as the words that encode them. A packet is read once, and decoded only if someone asks for its
+//! Stores each packet as the words that encode it, so that a packet is decoded only if a caller asks for
+//! its fields.
+//!
+//! Start with [`EncodedPacket`]: `new` checks the words, `words` returns them, and `decode` returns the
 //! fields.
 #![tactic(auto)]
 

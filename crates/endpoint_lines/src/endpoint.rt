@@ -18,22 +18,22 @@ use function_blocks::{Place, Profile};
 use text_lines::{Line, put_decimal, put_group_or_hyphen, put_hex, put_number, put_text};
 use voice_messages::{U4, U7};
 
-/// What became of a whole exclusive or of a stream packet (own rule).
+/// The word for what an endpoint did with a whole exclusive or a stream packet (own rule).
 #[derive(Clone, Copy, Debug, PartialEq, Eq)]
 pub enum OutcomeName {
-    /// `not-ci`: the exclusive isn't a message of MIDI-CI.
+    /// `not-ci`: the exclusive isn't a MIDI-CI message.
     NotCi,
     /// `short`: the message ends before its fields do.
     Short,
-    /// `bad-address`: the device ID is neither a channel, 7E nor 7F.
+    /// `bad-address`: the device ID is none of the channels, 7E and 7F.
     BadAddress,
-    /// `reserved-muid`: the source is a reserved MUID or that of a broadcast.
+    /// `reserved-muid`: the source is a reserved MUID or the broadcast MUID.
     ReservedMuid,
     /// `no-block`: no active function block with MIDI-CI has the group.
     NoBlock,
     /// `silent`: the block has used up its MUIDs.
     Silent,
-    /// `collision`: the source is the MUID of the block, which takes its next one or falls silent.
+    /// `collision`: the source is the block's own MUID; the block switches to its next MUID or falls silent.
     Collision,
     /// `old-version`: the message has a version that isn't answered.
     OldVersion,
@@ -41,25 +41,26 @@ pub enum OutcomeName {
     NotOurs,
     /// `moved`: the block's MUID was invalidated; the block switches to its next MUID or falls silent.
     Moved,
-    /// `report`: the message is itself a reply, a report, an ACK or a
-    /// NAK; those of Process Inquiry aren't among them.
+    /// `report`: the message is a reply, a report, an ACK or a NAK. The replies of Process Inquiry aren't
+    /// among these.
     Report,
-    /// `broadcast`: the message is to all, and it isn't Discovery.
+    /// `broadcast`: the message is sent to all, and it isn't Discovery.
     Broadcast,
     /// `answered`: the message has a reply.
     Answered,
-    /// `passed`: the message is one of Property Exchange, which isn't answered.
+    /// `passed`: the message is Property Exchange, which isn't answered.
     Passed,
-    /// `nak`: the message is refused by a NAK.
+    /// `nak`: the message is answered with a NAK.
     Nak,
     /// `no-answer`: the stream message has no reply.
     NoAnswer,
-    /// `bad-format`: the stream packet has a format that its message may not have.
+    /// `bad-format`: the stream packet has a format that is not allowed for its message.
     BadFormat,
 }
 
-/// The line of a whole exclusive or of a stream packet: the offset, in decimal digits, of the packet that
-/// ended it, its group, or a hyphen if it has none, and what became of it (own rule).
+/// Returns the line for a whole exclusive or a stream packet: the offset of the packet that ended it, in
+/// decimal digits, the group, or a hyphen if there is none, and the word for what the endpoint did (own
+/// rule).
 pub fn endpoint_line(offset: u64, group: Option<U4>, name: OutcomeName) -> Line
     ensures text { result ≡ endpoint_text offset group name }
     ensures some { 0 < length result }
@@ -69,7 +70,8 @@ pub fn endpoint_line(offset: u64, group: Option<U4>, name: OutcomeName) -> Line
     line
 }
 
-/// Overwrites the line with that of an exclusive or a stream packet, as `endpoint_line` writes it (own rule).
+/// Overwrites the line with the line for an exclusive or a stream packet, as `endpoint_line` returns it (own
+/// rule).
 pub fn fill_endpoint_line(line: &mut Line, offset: u64, group: Option<U4>, name: OutcomeName)
     ensures text { line.new ≡ endpoint_text offset group name }
     ensures some { 0 < length line.new }
@@ -83,7 +85,7 @@ pub fn fill_endpoint_line(line: &mut Line, offset: u64, group: Option<U4>, name:
     put_text(line, "\n");
 }
 
-/// The line of the protocol in force, which is 1 for MIDI 1.0 and 2 for MIDI 2.0 (own rule).
+/// Returns the line for the protocol in force, which is 1 for MIDI 1.0 and 2 for MIDI 2.0 (own rule).
 pub fn protocol_line(protocol: u8) -> Line
     ensures text { result ≡ protocol_text protocol }
     ensures some { 0 < length result }
@@ -95,8 +97,8 @@ pub fn protocol_line(protocol: u8) -> Line
     line
 }
 
-/// The line of a function block: its number, and its MUID in decimal
-/// digits, or `silent` if it has none (own rule).
+/// Returns the line for a function block: the block's number, and the MUID in decimal digits, or `silent` if
+/// there is none (own rule).
 pub fn block_line(number: u8, muid: Option<u32>) -> Line
     ensures text { result ≡ block_text number muid }
     ensures some { 0 < length result }
@@ -110,8 +112,8 @@ pub fn block_line(number: u8, muid: Option<u32>) -> Line
     line
 }
 
-/// The line of a profile: the number of its function block, its place, its ID in ten hexadecimal digits, and
-/// whether it is on now (own rule). Whether it was on at first doesn't matter.
+/// Returns the line for a profile: the number of its function block, the place, the id in ten hexadecimal
+/// digits, and whether the profile is enabled now (own rule). Whether it was enabled at first doesn't matter.
 pub fn profile_line(profile: &Profile, on: bool) -> Line
     ensures text { result ≡ profile_text profile.now on }
     ensures some { 0 < length result }
@@ -129,7 +131,7 @@ pub fn profile_line(profile: &Profile, on: bool) -> Line
     line
 }
 
-// A MUID, or that there is none.
+// Adds a MUID, or the word that says that there is none.
 fn put_muid(line: &mut Line, muid: Option<u32>)
     requires { length line.old ≤ before_kind }
     ensures text { line.new ≡ line.old ++ muid_text muid }
@@ -144,7 +146,7 @@ fn put_muid(line: &mut Line, muid: Option<u32>)
     }
 }
 
-// The place of a profile.
+// Adds the place of a profile.
 fn put_place(line: &mut Line, place: Place)
     requires { length line.old ≤ before_kind }
     ensures text { line.new ≡ line.old ++ place_text place }
@@ -165,7 +167,7 @@ fn put_place(line: &mut Line, place: Place)
     }
 }
 
-// The ID of a profile in ten hexadecimal digits.
+// Adds the id of a profile in ten hexadecimal digits.
 fn put_id(line: &mut Line, id: &[U7; 5])
     requires { HasRoom id_digits line.old }
     ensures text { line.new ≡ line.old ++ hex_bytes id.now }
@@ -176,7 +178,7 @@ fn put_id(line: &mut Line, id: &[U7; 5])
     }
 }
 
-// Whether a profile is on.
+// Returns the word that says whether a profile is enabled.
 fn state_name(on: bool) -> &'static str
     ensures word { result.now ≡ state_word on }
     ensures size { length result.now ≤ longest_word }
@@ -184,7 +186,7 @@ fn state_name(on: bool) -> &'static str
     if on { "on" } else { "off" }
 }
 
-/// The word of a name in a line (own rule).
+/// Returns the word for a name, as a line has it (own rule).
 pub fn word_of(name: OutcomeName) -> &'static str
     ensures word { result.now ≡ name_word name }
     ensures size { length result.now ≤ longest_name }

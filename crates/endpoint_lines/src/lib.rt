@@ -1,4 +1,6 @@
-//! The lines of text of the command `endpoint`.
+//! Writes the lines of text of the command `endpoint`.
+//!
+//! Start with [`OutcomeName`], which names what an endpoint did with a message, and [`endpoint_line`].
 #![tactic(auto)]
 
 pub mod endpoint;

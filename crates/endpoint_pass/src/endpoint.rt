@@ -1,4 +1,4 @@
-// The endpoint that a peer finds: its replies to stream messages and to MIDI-CI, and its lines.
+// The endpoint that a peer talks to: its replies to stream messages and to MIDI-CI, and its lines.
 ghost use Rattle.std.specs.Prelude.{◌≡◌, ◌≤◌, [], ◌∷◌, ◌++◌, IfOk};
 ghost use Rattle.ci_responder.specs.Held.{muid_in};
 ghost use Rattle.ci_responder.specs.Keys.{state_in};
@@ -26,8 +26,8 @@ ghost use Rattle.endpoint_pass.specs.ForProofs.Taking.{TakesPacket};
 use crate::lines::put_taken;
 use crate::replies::put_replies;
 use ci_text::{LinePlace, ProfileStates, put_profiles};
-use endpoint_lines::{block_line, protocol_line};
 use encoded_packets::EncodedPacket;
+use endpoint_lines::{block_line, protocol_line};
 use function_blocks::{Block, Setup};
 use listing_lines::{OpenExclusives, list_open, refused};
 use outside::{Lanes, Sink, Source};
@@ -41,7 +41,7 @@ use text_lines::Line;
 use ump_endpoint::{Endpoint, Key, answers_are_those_of_the_history};
 use ump_grammar::Packet;
 
-/// An endpoint that is ready to answer, with all its memory. A contract sees its options.
+/// An endpoint that is ready to answer and has all its memory. In contracts its value is the options.
 #[derive(Drop)]
 pub struct EndpointRun {
     endpoint: Endpoint,
@@ -68,9 +68,9 @@ impl Model for EndpointRun {
 }
 
 impl EndpointRun {
-    /// An endpoint of this setup; the words that it reads and writes have this order. `room` is the most
-    /// bytes of an exclusive between F0 and F7, 6 to 1,048,576, for which each group reserves memory;
-    /// `NoMemory` when there isn't that much. No other call takes any.
+    /// Creates an endpoint of this setup. The words that it reads and writes have this byte order. `room` is
+    /// the most bytes of an exclusive between F0 and F7, 6 to 1,048,576, for which each group reserves
+    /// memory. Returns `NoMemory` if there isn't enough. No other call allocates.
     pub fn new(
         alloc: Global,
         setup: Setup,
@@ -86,8 +86,8 @@ impl EndpointRun {
     }
 }
 
-// Puts the words of the replies to each packet in the output and its lines in the notes, at the end the lines
-// of what is open, of the protocol in force, and of the blocks and profiles.
+// Writes the words of the replies to each packet to the output and the packet's lines to the notes. At the
+// end it writes the lines for open exclusives, for the protocol in force, and for the blocks and profiles.
 #[derive(Drop)]
 struct EndpointEngine {
     endpoint: Endpoint,
@@ -151,7 +151,7 @@ impl Engine<Framed, EncodedPacket> for EndpointEngine {
         answers_mean (endpoint_options first) past puts put };
 }
 
-// Puts the line of the protocol in force in the notes.
+// Writes the line for the protocol in force to the notes.
 fn put_protocol<O: Outputs>(protocol: u8, outputs: &mut O) -> Result<(), RunEnd>
     ensures { Puts (in_notes (protocol_text protocol) ∷ [])
         (O.places outputs.old) (O.places outputs.new) result }
@@ -160,7 +160,7 @@ fn put_protocol<O: Outputs>(protocol: u8, outputs: &mut O) -> Result<(), RunEnd>
     outputs.put_notes(line.as_slice())
 }
 
-// Puts the line of a block, if it has MIDI-CI.
+// Writes the line for a block, if the block has MIDI-CI.
 fn put_block<O: Outputs>(
     endpoint: &Endpoint,
     number: u8,
@@ -177,7 +177,7 @@ fn put_block<O: Outputs>(
     outputs.put_notes(line.as_slice())
 }
 
-// Puts the line of each block that has MIDI-CI, with the MUID in force.
+// Writes the line for each block that has MIDI-CI, with the MUID in force.
 fn put_blocks<O: Outputs>(setup: &Setup, endpoint: &Endpoint, outputs: &mut O) -> Result<(), RunEnd>
     ensures { Puts (for_each (block_line_of (muid_in endpoint.now.held.responder.blocks)) 0
         setup.now.blocks) (O.places outputs.old) (O.places outputs.new) result }
@@ -190,8 +190,8 @@ fn put_blocks<O: Outputs>(setup: &Setup, endpoint: &Endpoint, outputs: &mut O) -
 }
 
 impl EndpointEngine {
-    // Takes one more packet: puts the words of the replies to it in the output, and its lines in the notes.
-    // Most packets are direct messages, which an endpoint ignores, so they aren't decoded.
+    // Handles one more packet: writes the words of the replies to the output, and the packet's lines to the
+    // notes. Most packets are direct messages, which an endpoint ignores, so they aren't decoded.
     #[inline(always)]
     fn take_packet<O: Outputs>(
         &mut self,
@@ -211,7 +211,7 @@ impl EndpointEngine {
         }
     }
 
-    // The same of a decoded packet, out of line, so that the loop stays small.
+    // Does the same as `take_packet` for a decoded packet. It isn't inlined, so that the loop stays small.
     #[inline(never)]
     fn take_decoded<O: Outputs>(
         &mut self,
@@ -234,7 +234,7 @@ impl EndpointEngine {
         }
     }
 
-    // Puts the lines of the blocks and of the profiles.
+    // Writes the lines for the blocks and for the profiles.
     fn put_setup<O: Outputs>(&self, outputs: &mut O) -> Result<(), RunEnd>
         ensures { Puts (setup_lines self.now.endpoint.held)
             (O.places outputs.old) (O.places outputs.new) result }
@@ -244,7 +244,7 @@ impl EndpointEngine {
         put_profiles(setup, self, LinePlace::Notes, outputs)
     }
 
-    // Puts the line of the protocol in force, and those of the blocks and profiles.
+    // Writes the line for the protocol in force, and the lines for the blocks and profiles.
     fn put_state<O: Outputs>(&self, outputs: &mut O) -> Result<(), RunEnd>
         ensures { Puts (in_notes (protocol_text self.now.endpoint.held.protocol) ∷ []
             ++ setup_lines self.now.endpoint.held) (O.places outputs.old) (O.places outputs.new) result }
@@ -253,8 +253,8 @@ impl EndpointEngine {
         self.put_setup(outputs)
     }
 
-    // Puts the lines of the exclusives that are open, of the protocol
-    // in force, and of the blocks and profiles.
+    // Writes the lines for the exclusives that are open, for the protocol in force, and for the blocks and
+    // profiles.
     fn put_closing<O: Outputs>(&self, outputs: &mut O) -> Result<(), RunEnd>
         ensures { Puts (held_closing self.now.endpoint.held)
             (O.places outputs.old) (O.places outputs.new) result }
@@ -264,16 +264,16 @@ impl EndpointEngine {
     }
 }
 
-/// Answers the packets of a peer as an endpoint, to the end of the recording or to the first packet that is
-/// refused (M2-104-UM, UMP stream messages; M2-101-UM; the lines are own rule). Puts the words of the replies
-/// to each stream packet, and to each MIDI-CI message that a packet ends, in the output, each packet by one
-/// put, and then the lines of that packet in the notes; at the end the lines of the exclusives that are open,
-/// of the protocol in force, and of the blocks with MIDI-CI and the profiles. Packets of other kinds have no
-/// reply and no line. Takes no memory.
+/// Answers the packets of a peer as an endpoint does, to the end of the recording or to the first packet that
+/// is refused (M2-104-UM, UMP stream messages; M2-101-UM; the lines are own rule). Writes the words of the
+/// replies to each stream packet, and to each MIDI-CI message that a packet ends, to the output, with one
+/// write for each packet of a reply. Then writes the lines of the peer's packet to the notes. At the end,
+/// writes the lines for the exclusives that are open, for the protocol in force, and for the blocks with
+/// MIDI-CI and the profiles. Packets of other kinds have no reply and no line. The call doesn't allocate.
 ///
-/// `Refused` comes for `Truncated`, `InputTooLong`, `BadCount`, `HighBit` and `ExclusiveTooLong`, with the
-/// number of bytes before what is refused. `ReadFault`, `OutputFault` and `NoteFault` are returned only if
-/// the count of that object rose. The lanes are unchanged.
+/// Returns `Refused` for `Truncated`, `InputTooLong`, `BadCount`, `HighBit` and `ExclusiveTooLong`, with the
+/// number of bytes before the packet or end that is refused. Returns `ReadFault`, `OutputFault` or
+/// `NoteFault` only if the fault count of that object rose. The lanes are unchanged.
 // Never inlined, so that the loops of the other passes keep their registers.
 #[inline(never)]
 pub fn run_endpoint<S: Source, L: Lanes, W: Sink, N: Sink>(

@@ -1,5 +1,8 @@
-//! The pass of the command `endpoint`, for other programs too: a
-//! recording of a peer that is answered by an endpoint.
+//! Runs the command `endpoint` over a whole recording of a peer, for the program and for others: answers it
+//! as an endpoint.
+//!
+//! Start with [`EndpointRun`], whose `new` takes a setup and allocates, and [`run_endpoint`], which writes
+//! the replies and the lines.
 #![tactic(auto)]
 
 mod endpoint;

@@ -1,4 +1,4 @@
-// The lines of what an endpoint did with a packet.
+// The lines for what an endpoint did with a packet.
 ghost use Rattle.std.specs.Prelude.{◌≡◌, ◌++◌};
 ghost use Rattle.std.specs.Option.{option_to_list};
 ghost use Rattle.listing_lines.specs.Lines.{line_puts};
@@ -15,7 +15,7 @@ use text_lines::Line;
 use ump_endpoint::{CiFault, Outcome, Taken};
 use ump_grammar::Packet;
 
-// What the line of an exclusive with this fault says.
+// Returns the word for an exclusive with this fault.
 fn name_of_fault(fault: CiFault) -> OutcomeName
     ensures { result ≡ fault_name fault }
 {
@@ -27,7 +27,7 @@ fn name_of_fault(fault: CiFault) -> OutcomeName
     }
 }
 
-// What the line of a message says of which this became.
+// Returns the word for what was done with a message.
 fn name_of(outcome: Outcome) -> OutcomeName
     ensures { result ≡ name_in outcome }
 {
@@ -40,7 +40,7 @@ fn name_of(outcome: Outcome) -> OutcomeName
     }
 }
 
-// The group of a packet that may end a message: that of an exclusive; a stream packet has none.
+// Returns the group of a packet that may end a message: the group of an exclusive. A stream packet has none.
 fn group_of(packet: &Packet) -> Option<U4>
     ensures { result ≡ group_in packet.now }
 {
@@ -55,8 +55,8 @@ fn group_of(packet: &Packet) -> Option<U4>
     }
 }
 
-// Puts the line of the message that a packet ended, if it ended one,
-// in the notes. It is made in the place of another one.
+// Writes the line for the message that a packet ended, if it ended one, to the notes. The line is written
+// over another.
 fn put_outcome<O: Outputs>(
     line: &mut Line,
     offset: u64,
@@ -76,7 +76,8 @@ fn put_outcome<O: Outputs>(
     }
 }
 
-/// Puts the line of the message that a packet ended in the notes, and then that of what the packet lost.
+/// Writes the line for the message that a packet ended to the notes, and then the line for what the packet
+/// lost.
 pub(crate) fn put_taken<O: Outputs>(
     line: &mut Line,
     offset: u64,

@@ -1,4 +1,4 @@
-// The replies of an endpoint in the output.
+// Writes the replies of an endpoint to the output.
 ghost use Rattle.std.specs.Prelude.{List, []};
 ghost use Rattle.ump_grammar.specs.Replies.{AddsPackets};
 ghost use Rattle.ump_grammar.specs.declared.packet.Packet.{Packet};
@@ -9,7 +9,7 @@ use packet_words::Order;
 use pass_loop::{Outputs, RunEnd};
 use ump_endpoint::ReplyPackets;
 
-/// Puts the words of the packets in the output, one packet after the other.
+/// Writes the words of the packets to the output, one packet after the other.
 pub(crate) fn put_replies<O: Outputs>(
     replies: ReplyPackets<'_>,
     order: Order,

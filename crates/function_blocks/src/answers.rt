@@ -1,4 +1,4 @@
-// The replies to stream messages.
+// Replies to stream messages.
 ghost use Rattle.std.specs.Prelude.{◌≡◌, ◌<◌, ◌≤◌, ◌+◌, ◌*◌, ◌^◌, [], ◌∷◌, length, slice_get};
 ghost use Rattle.std.specs.List.{All};
 ghost use Rattle.system_stream.specs.Layout.{FitsPlaces, flag, packet_of};
@@ -26,7 +26,7 @@ use ump_grammar::fields::bits;
 // The block number that stands for all blocks.
 const ALL_BLOCKS: u8 = 255;
 
-// Whether the bit of a filter is set.
+// Returns whether this bit of a filter is set.
 pub(crate) fn asks(filter: u8, bit: u32) -> bool
     requires { bit < 8 }
     ensures { result ≡ flag filter bit }
@@ -44,7 +44,7 @@ pub(crate) fn push_message(replies: &mut Replies, message: &StreamMessage)
     replies.push(&write(message));
 }
 
-/// Adds the packet of a message, if it is asked for.
+/// Adds the packet of a message if it is asked for.
 pub(crate) fn push_asked(replies: &mut Replies, is_asked: bool, message: &StreamMessage)
     requires message { FitsPlaces message.now }
     requires room { length replies.old + 4 ≤ 1024 }
@@ -70,7 +70,7 @@ fn push_text(replies: &mut Replies, kind: TextKind, block: u8, text: &[u8])
     }
 }
 
-/// Adds the packets of a text, if it is asked for.
+/// Adds the packets of a text if it is asked for.
 fn push_asked_text(replies: &mut Replies, is_asked: bool, kind: TextKind, block: u8, text: &[u8])
     requires some { 0 < length text.now }
     requires limit { length text.now ≤ limit_of kind }
@@ -102,7 +102,7 @@ fn block_info(number: u8, block: &Block) -> StreamMessage
     }
 }
 
-/// Adds what the filter asks for about one block: bit 0 the info, bit 1 the name.
+/// Adds the replies about one block that the filter asks for: the info for bit 0 and the name for bit 1.
 fn push_block(replies: &mut Replies, filter: u8, number: u8, block: &Block)
     requires block { IsBlock block.now }
     requires number { number < 2 ^ 7 }
@@ -120,7 +120,7 @@ fn push_block(replies: &mut Replies, filter: u8, number: u8, block: &Block)
     );
 }
 
-/// Adds what the filter asks for about each block, in order of number.
+/// Adds the replies about each block that the filter asks for, in order of number.
 fn push_blocks(replies: &mut Replies, filter: u8, blocks: &[Block])
     requires blocks { All IsBlock blocks.now }
     requires few { length blocks.now ≤ 32 }
@@ -152,14 +152,17 @@ impl Setup {
     };
 
     /// Adds the replies to a stream message (M2-104-UM, UMP stream messages) to `replies`, which is empty,
-    /// and returns whether there are any. They take no memory, and are at most 1,024 words: for each of 32
-    /// blocks, one info and seven packets of a name.
+    /// and returns whether there are any. The call doesn't allocate. The replies have at most 1,024 words: an
+    /// info and seven packets of a name for each of 32 blocks.
     ///
-    /// Discovery is answered with what its filter asks for: the info, the identity, the name, the product id,
-    /// and a notice of the protocol in force. A request for a protocol that the setup supports puts it in
-    /// force; each request is answered with a notice of the one in force then. A discovery of blocks is
-    /// answered with what its filter asks for, the info and the name, of the block with its number, or of all
-    /// blocks for the number 255; with nothing for a number that no block has. Nothing else is answered.
+    /// The replies depend on the message:
+    /// - Endpoint Discovery: the info, the identity, the name, the product instance id and a notice of the
+    ///   protocol in force, each if the filter asks for it.
+    /// - A request for a protocol: a notice of the protocol then in force. If the setup supports the
+    ///   requested protocol, that protocol comes into force first.
+    /// - Function Block Discovery: the info and the name, each if the filter asks for it, of the block with
+    ///   this number, or of all blocks for the number 255. If no block has the number, there are no replies.
+    /// - Any other message: no replies.
     pub fn answer(
         &self,
         message: &StreamMessage,
@@ -200,7 +203,7 @@ impl Setup {
         }
     }
 
-    // The protocol in force after a request for one.
+    // Returns the protocol in force after a request for `wanted`.
     fn protocol_after_request(&self, in_force: u8, wanted: u8) -> u8
         ensures { result ≡ requested self.now in_force wanted }
     {
@@ -269,7 +272,7 @@ impl Setup {
         }
     }
 
-    // Adds what the filter asks for about the block of this number, if there is one.
+    // Adds the replies about the block of this number that the filter asks for, if there is such a block.
     fn push_one_block(&self, number: u8, filter: u8, replies: &mut Replies)
         requires { length replies.old ≡ 0 }
         ensures { Pushes (replies_of_named filter number (slice_get self.now.blocks number))

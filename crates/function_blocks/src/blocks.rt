@@ -24,7 +24,7 @@ use small_types::ShortList;
 use std::alloc::Global;
 use toml::{Table, Value};
 
-/// Reads a block by the rules of its keys, in their order.
+/// Reads a block by the rules for its keys, in the order of the rules.
 fn read_block(table: &Table) -> Result<Block, SetupFault>
     ensures value { result ≡ block_in (table_view table.now) }
     ensures fits { IfOk result IsBlock }
@@ -95,7 +95,7 @@ pub(crate) fn read_blocks(alloc: Global, setup: &Table) -> Result<Vec<Block>, Se
     read_each_block(alloc, values)
 }
 
-// Whether both have MIDI-CI, and some group is in both.
+// Returns whether both blocks have MIDI-CI and some group is in both.
 fn shares_group(one: &Block, other: &Block) -> bool
     ensures { result ≡ has_group_of one.now other.now }
 {
@@ -113,7 +113,7 @@ fn is_apart_from(block: &Block, others: &[Block]) -> bool
     others.iter().all(|other| !shares_group(block, other))
 }
 
-/// Whether no two blocks with MIDI-CI share a group.
+/// Returns whether no two blocks with MIDI-CI share a group.
 pub(crate) fn are_apart(blocks: &[Block]) -> bool
     ensures { result ≡ are_all_apart blocks.now }
 {
@@ -123,7 +123,7 @@ pub(crate) fn are_apart(blocks: &[Block]) -> bool
     }
 }
 
-// The MUIDs of all blocks.
+// Returns the MUIDs of all blocks.
 fn all_muids(blocks: &[Block]) -> ShortList<u32, 512>
     requires { length blocks.now ≤ 32 }
     ensures { result ≡ muids_of blocks.now }
@@ -144,7 +144,7 @@ fn are_distinct(numbers: &[u32]) -> bool
     }
 }
 
-/// Whether no MUID appears twice, in one block or in two.
+/// Returns whether no MUID appears twice, in one block or in two.
 pub(crate) fn muids_are_distinct(blocks: &[Block]) -> bool
     requires { length blocks.now ≤ 32 }
     ensures { result ≡ are_all_distinct (muids_of blocks.now) }

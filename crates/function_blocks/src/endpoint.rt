@@ -1,4 +1,4 @@
-// The endpoint's own keys.
+// Reads the endpoint's own keys.
 ghost use Rattle.std.specs.Prelude.{◌≡◌, IfOk};
 ghost use Rattle.std.specs.List.{list_all};
 ghost use Rattle.toml.specs.View.{table_view};
@@ -10,21 +10,21 @@ use crate::rules::{Rule, SetupFault, broken};
 use crate::setup::Endpoint;
 use toml::Table;
 
-// Whether each byte is a printable character of ASCII.
+// Returns whether each byte is a printable ASCII character.
 fn is_printable(bytes: &[u8]) -> bool
     ensures { result ≡ list_all is_printable_byte bytes.now }
 {
     bytes.iter().all(|byte| *byte >= 32 && *byte <= 126)
 }
 
-/// Whether this is a protocol, 1 or 2, that the endpoint supports.
+/// Returns whether `protocol` is 1 or 2 and the endpoint supports it.
 pub(crate) fn is_supported(midi1: bool, midi2: bool, protocol: u32) -> bool
     ensures { result ≡ is_protocol_of midi1 midi2 protocol }
 {
     (protocol == 1 && midi1) || (protocol == 2 && midi2)
 }
 
-/// Reads the endpoint's own keys by their rules, in order.
+/// Reads the endpoint's own keys by their rules, in the order of the rules.
 pub(crate) fn read_endpoint(setup: &Table) -> Result<Endpoint, SetupFault>
     ensures value { result ≡ endpoint_of (table_view setup.now) }
     ensures fits { IfOk result IsEndpoint }

@@ -1,4 +1,4 @@
-// The values of the keys of a table.
+// Reads the values of a table's keys.
 ghost use Rattle.std.specs.Prelude.{
   ◌≡◌,
   ◌<◌,
@@ -70,7 +70,7 @@ fn array_at<'a>(table: &'a Table, key: &str) -> Option<&'a Vec<Value>>
     value_at(table, key)?.as_array()
 }
 
-/// A text of 1 to `N` bytes of UTF-8.
+/// Returns the text of a key, if it has 1 to `N` bytes of UTF-8.
 #[tactic(auto, using(crate::proofs::FitLaws::limited_itself))]
 pub(crate) fn limited_text_at<const N: usize>(table: &Table, key: &str) -> Option<ShortList<u8, N>>
     ensures value { result ≡ limited_text_of N key.now (table_view table.now) }
@@ -87,7 +87,7 @@ pub(crate) fn limited_text_at<const N: usize>(table: &Table, key: &str) -> Optio
     Some(bytes)
 }
 
-// A number from `least` to `most`.
+// Returns a value if it is a number from `least` to `most`.
 fn number_in(value: &Value, least: u32, most: u32) -> Option<u32>
     ensures value { result ≡ number_of_value least most (view value.now) }
     ensures least { IfSome result (λ n. least ≤ n) }
@@ -106,7 +106,7 @@ fn number_in(value: &Value, least: u32, most: u32) -> Option<u32>
     }
 }
 
-/// A number from `least` to `most`.
+/// Returns the value of a key if it is a number from `least` to `most`.
 pub(crate) fn number_at(table: &Table, key: &str, least: u32, most: u32) -> Option<u32>
     ensures value { result ≡ number_of_key least most key.now (table_view table.now) }
     ensures least { IfSome result (λ n. least ≤ n) }
@@ -115,7 +115,7 @@ pub(crate) fn number_at(table: &Table, key: &str, least: u32, most: u32) -> Opti
     number_in(value_at(table, key)?, least, most)
 }
 
-// The numbers of a list of at most `N`, each from 0 to `most`.
+// Returns the numbers of a list of at most `N` values, if each is a number from 0 to `most`.
 fn small_numbers_in<const N: usize>(values: &[Value], most: u8) -> Option<ShortList<u8, N>>
     requires { length values.now ≤ N }
     ensures value { result ≡ numbers_of most (items_view values.now) }
@@ -144,7 +144,7 @@ fn exactly<const N: usize>(values: &Vec<Value>, most: u8) -> Option<ShortList<u8
     small_numbers_in(values.as_slice(), most)
 }
 
-/// A list of exactly `N` numbers from 0 to `most`.
+/// Returns the value of a key if it is a list of exactly `N` numbers from 0 to `most`.
 pub(crate) fn numbers_at<const N: usize>(
     table: &Table,
     key: &str,
@@ -157,7 +157,7 @@ pub(crate) fn numbers_at<const N: usize>(
     exactly(array_at(table, key)?, most)
 }
 
-/// The `N` numbers of a list, as an array.
+/// Returns the `N` numbers of a list as an array.
 pub(crate) fn array<const N: usize>(numbers: &ShortList<u8, N>) -> [u8; N]
     requires { length numbers.now ≡ N }
     ensures { result ≡ numbers.now }
@@ -167,7 +167,7 @@ pub(crate) fn array<const N: usize>(numbers: &ShortList<u8, N>) -> [u8; N]
     array
 }
 
-// The numbers of a list of at most `N`, each from 0 to `most`.
+// Returns the numbers of a list of at most `N` values, if each is a number from 0 to `most`.
 fn wide_numbers_in<const N: usize>(values: &[Value], most: u32) -> Option<ShortList<u32, N>>
     requires { length values.now ≤ N }
     ensures value { result ≡ numbers_of most (items_view values.now) }
@@ -196,7 +196,7 @@ fn at_most<const N: usize>(values: &Vec<Value>, most: u32) -> Option<ShortList<u
     wide_numbers_in(values.as_slice(), most)
 }
 
-/// A list of at most `N` numbers from 0 to `most`.
+/// Returns the value of a key if it is a list of at most `N` numbers from 0 to `most`.
 pub(crate) fn short_numbers_at<const N: usize>(
     table: &Table,
     key: &str,
@@ -228,8 +228,8 @@ fn are_tables(values: &[Value], most: usize) -> bool
     values.len() <= most && are_each_tables(values)
 }
 
-/// The entries of a list of at most `most` tables; no entries if the key is absent. Any other value breaks
-/// the rule.
+/// Returns the entries of a key whose value is a list of at most `most` tables. If the key is absent, there
+/// are no entries. Any other value breaks the rule.
 pub(crate) fn entries_at<'a>(
     table: &'a Table,
     key: &str,

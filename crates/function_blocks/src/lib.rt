@@ -1,4 +1,8 @@
-//! The setup of an endpoint and its function blocks, and the replies to stream messages.
+//! Reads the setup of an endpoint and its function blocks from a TOML text, and writes the replies to UMP
+//! stream messages.
+//!
+//! Start with [`Setup`]: `read` reads it from a text and says with a [`SetupFault`] why a text isn't a setup,
+//! `answer` writes the replies to one message, and [`Config`] is the protocol in force between messages.
 #![tactic(auto)]
 
 mod answers;

@@ -51,7 +51,7 @@ use std::alloc::Global;
 use toml::{Table, Value};
 use voice_messages::{U4, U7};
 
-/// The kind of a place, by its word. It decides which other keys the place needs.
+/// The kind of a place, by the word in the setup. The kind decides which other keys the place needs.
 #[derive(Clone, Copy)]
 pub enum PlaceKind {
     Function,
@@ -59,7 +59,7 @@ pub enum PlaceKind {
     Channel,
 }
 
-// The block of this number, if its `ci` isn't 0.
+// Returns the block of this number, if there is one and its `ci` isn't 0.
 fn block_naming_ci(blocks: &[Block], number: u32) -> Option<&Block>
     requires { All IsBlock blocks.now }
     ensures value { option_map (λ b. b.now) result ≡ block_naming_ci_of blocks.now number }
@@ -91,7 +91,7 @@ fn kind_at(table: &Table) -> Option<PlaceKind>
     kind_of(text_at(table, "place")?)
 }
 
-// A group of the block.
+// Returns the value of the key `group`, if it is a group of the block.
 fn group_at(table: &Table, block: &Block) -> Option<U4>
     requires { IsBlock block.now }
     ensures value { result ≡ group_of block.now (table_view table.now) }
@@ -131,7 +131,7 @@ fn naming_ci(block: &Block) -> Option<&Block>
     if block.ci == 0 { None } else { Some(block) }
 }
 
-// A number below 128.
+// Returns a number below 128 as seven bits.
 fn seven_bits(number: u8) -> U7
     requires { number ≤ 127 }
     ensures { result ≡ number }
@@ -139,7 +139,7 @@ fn seven_bits(number: u8) -> U7
     U7::low_bits(u32::from(number))
 }
 
-// The numbers of a profile's id.
+// Returns the numbers of a profile's id as seven bits each.
 fn id_of(numbers: [u8; 5]) -> [U7; 5]
     requires { All (λ n. n ≤ 127) numbers }
     ensures { result ≡ numbers }
@@ -161,7 +161,7 @@ fn id_at(table: &Table) -> Option<[U7; 5]>
     Some(id_of(array(&numbers)))
 }
 
-/// Reads a profile by the rules of its keys, in their order, and adds it at the end.
+/// Reads a profile by the rules for its keys, in the order of the rules, and adds it at the end.
 fn add_profile(
     profiles: &mut Vec<Profile>,
     table: &Table,
@@ -258,7 +258,7 @@ fn is_among(profile: &Profile, others: &[Profile]) -> bool
     others.iter().any(|other| is_same_profile(profile, other))
 }
 
-/// Whether no two profiles have the same block, place and id.
+/// Returns whether no two profiles have the same block, place and id.
 pub(crate) fn are_distinct(profiles: &[Profile]) -> bool
     ensures { result ≡ profiles_are_distinct profiles.now }
 {

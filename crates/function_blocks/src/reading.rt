@@ -1,4 +1,4 @@
-// The setup of a text.
+// Reads the setup of a text.
 ghost use Rattle.std.specs.Prelude.{◌≡◌, ◌⊎◌, None, Some, IfErr, IfOk};
 ghost use Rattle.toml.specs.View.{table_view};
 ghost use Rattle.function_blocks.specs.Setups.{IsSetup, MeetsRead, setup_in, setup_of, tree_of};
@@ -16,11 +16,11 @@ pub const MOST_BYTES: usize = 65_536;
 
 impl Setup {
     /// Reads a setup from a TOML text, by the rules in their order (`Rule`; own rules). A number is a TOML
-    /// integer, and unknown keys are ignored. Returns the setup, which keeps all rules.
+    /// integer, and unknown keys are ignored. The setup that is returned keeps all rules.
     ///
-    /// `Field` is returned exactly if the rule of that number is the first that is broken. `Syntax` is
-    /// returned exactly if the text is short enough, but isn't UTF-8 or has no tree by `toml`. Instead of
-    /// any answer, `NoMemory` is returned if there is no memory.
+    /// Returns `Field` exactly if the rule of that number is the first that the text breaks. Returns `Syntax`
+    /// exactly if the text is short enough, but isn't UTF-8 or isn't accepted by `toml`. Returns `NoMemory`,
+    /// instead of any of these results, if the call runs out of memory.
     pub fn read(alloc: Global, text: &[u8]) -> Result<Setup, SetupFault>
         ensures setup { MeetsRead (setup_of text.now) result }
         ensures fits { IfOk result IsSetup }
@@ -33,7 +33,7 @@ impl Setup {
     }
 }
 
-// The tree of a text.
+// Returns the TOML table of a text.
 fn tree(alloc: Global, text: &[u8]) -> Result<Table, SetupFault>
     ensures ok { IfOk result (λ t. tree_of text.now ≡ Some (table_view t)) }
     ensures err { IfErr result (λ e.

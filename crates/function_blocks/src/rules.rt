@@ -4,9 +4,9 @@ ghost use Rattle.function_blocks.specs.Rules.{broken as broken_rule, number_of};
 
 use thiserror::Error;
 
-/// A rule of the setup (own rules), named for what it asks for. The rules are tested in this order, those of
-/// blocks for one block after the other, and those of profiles likewise. A missing key breaks its rule,
-/// except for `block` and `profile`.
+/// A rule of the setup (own rules), named for its condition. The rules are tested in this order. The rules
+/// for blocks are tested for one block after the other, and so are those for profiles. A missing key breaks
+/// its rule, except for `block` and `profile`.
 #[derive(Clone, Copy, Debug, PartialEq, Eq)]
 pub enum Rule {
     /// The text has at most 65,536 bytes.
@@ -84,21 +84,21 @@ impl Rule {
     }
 }
 
-/// Why a text is not a setup.
+/// Says why a text isn't a setup.
 #[derive(Clone, Copy, Debug, PartialEq, Eq, Error)]
 pub enum SetupFault {
     /// The text isn't UTF-8, or isn't TOML.
     #[error("the setup is not TOML")]
     Syntax,
-    /// The rule of this number is the first that is broken.
+    /// The text breaks the rule of this number, and no earlier rule.
     #[error("the setup breaks rule {0}")]
     Field(u8),
-    /// There was no memory.
+    /// The call ran out of memory.
     #[error("there is no memory for the setup")]
     NoMemory,
 }
 
-/// The fault of a broken rule.
+/// Returns the fault for a broken rule.
 pub(crate) fn broken(rule: Rule) -> SetupFault
     ensures { result ≡ broken_rule rule }
 {

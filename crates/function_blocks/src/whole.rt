@@ -7,7 +7,7 @@ ghost use Rattle.function_blocks.specs.Setups.{in_two_bytes as two_bytes_of};
 use crate::setup::{Block, Config, Endpoint, Identity, Profile};
 use std::marker::Model;
 
-/// The setup of an endpoint, which keeps the rules that `IsSetup` names. A contract sees it as the record of
+/// The setup of an endpoint. It keeps the rules that `IsSetup` names. In contracts its value is the record of
 /// the endpoint's own keys, the blocks and the profiles, each in the order of the text.
 #[derive(Drop)]
 pub struct Setup {
@@ -34,7 +34,7 @@ impl Model for Setup {
     }) };
 }
 
-// A number below 16,384 in two bytes of seven bits, the lowest first.
+// Returns a number below 16,384 in two bytes of seven bits each, the lowest bits first.
 fn in_two_bytes(number: u16) -> [u8; 2]
     requires { number < 16384 }
     ensures { result ≡ two_bytes_of number }
@@ -48,7 +48,7 @@ impl Setup {
     ghost use Rattle.function_blocks.specs.Setups.{identity_of};
 
     /// Returns the function blocks by number, at most 32 (M2-104-UM, Function Block Info). No two active
-    /// ones with MIDI-CI share a group, and no MUID appears twice.
+    /// blocks with MIDI-CI share a group, and no MUID appears twice.
     pub fn blocks(&self) -> &[Block]
         ensures value { result.now ≡ self.now.blocks }
         ensures few { length result.now ≤ 32 }
@@ -59,8 +59,8 @@ impl Setup {
         self.blocks.as_slice()
     }
 
-    /// Returns the number of function blocks, at most 32 (M2-104-UM, Endpoint Info). No two active ones with
-    /// MIDI-CI share a group, and no MUID appears twice.
+    /// Returns the number of function blocks, at most 32 (M2-104-UM, Endpoint Info). No two active blocks
+    /// with MIDI-CI share a group, and no MUID appears twice.
     pub fn block_count(&self) -> u8
         ensures value { result ≡ length self.now.blocks }
         ensures few { length self.now.blocks ≤ 32 }
@@ -71,8 +71,8 @@ impl Setup {
         self.blocks.len() as u8
     }
 
-    /// Looks the block of number `n` up, counted from 0 (M2-104-UM, Function Block Info). Returns `None`
-    /// exactly when `n` is past the last one.
+    /// Returns the block of number `n`, counted from 0 (M2-104-UM, Function Block Info), or `None` exactly if
+    /// `n` is past the last block.
     pub fn block(&self, n: u8) -> Option<&Block>
         ensures value { option_map (λ b. b.now) result ≡ slice_get self.now.blocks n }
         ensures fits { IfSome result (λ b. IsBlock b.now) }
@@ -83,8 +83,8 @@ impl Setup {
     }
 
     /// Returns the profiles in the order of the setup, at most 64 (own rule). No two have the same block,
-    /// place and id. The block of each is one of the setup's blocks whose `ci` isn't 0. If its place names a
-    /// group, that group is one of the block.
+    /// place and id. Each profile belongs to one of the setup's blocks, and the `ci` of that block isn't 0.
+    /// If a place names a group, that group belongs to the profile's block.
     pub fn profiles(&self) -> &[Profile]
         ensures value { result.now ≡ self.now.profiles }
         ensures few { length result.now ≤ 64 }
@@ -94,7 +94,8 @@ impl Setup {
         self.profiles.as_slice()
     }
 
-    /// Returns the number of profiles, at most 64 (own rule). No two have the same block, place and id.
+    /// Returns the number of profiles, at most 64 (own rule). No two profiles have the same block, place and
+    /// id.
     pub fn profile_count(&self) -> usize
         ensures value { result ≡ length self.now.profiles }
         ensures few { length self.now.profiles ≤ 64 }
@@ -103,9 +104,9 @@ impl Setup {
         self.profiles.len()
     }
 
-    /// Looks profile `k` up in the order of the setup, counted from 0 (own rule). Returns `None` exactly when
-    /// `k` is past the last one. The block of a profile is one of the setup's blocks whose `ci` isn't 0. If
-    /// its place names a group, that group is one of the block.
+    /// Returns profile `k` in the order of the setup, counted from 0 (own rule), or `None` exactly if `k` is
+    /// past the last profile. The profile belongs to one of the setup's blocks, and the `ci` of that block
+    /// isn't 0. If the place names a group, that group belongs to the block.
     pub fn profile(&self, k: usize) -> Option<&Profile>
         ensures value { option_map (λ p. p.now) result ≡ slice_get self.now.profiles k }
         ensures block { IfSome result (λ p. p.now.block < length self.now.blocks) }
@@ -114,8 +115,8 @@ impl Setup {
         self.profiles.get(k)
     }
 
-    /// Returns the identity as it is written in Device Identity (M2-104-UM): `family` and `model` have seven
-    /// bits in each byte, the lowest first. Each byte is below 128.
+    /// Returns the identity as it is written in Device Identity (M2-104-UM). `family` and `model` have seven
+    /// bits in each byte, the lowest bits first. Each byte is below 128.
     pub fn identity(&self) -> Identity
         ensures value { result ≡ identity_of self.now }
         ensures manufacturer { (length result.manufacturer ≡ 3)
@@ -132,7 +133,7 @@ impl Setup {
         }
     }
 
-    /// Returns the product instance id, 1 to 42 bytes of 32 to 126 (M2-104-UM, Product Instance Id).
+    /// Returns the product instance id, 1 to 42 bytes, each 32 to 126 (M2-104-UM, Product Instance Id).
     pub fn product_id(&self) -> &str
         ensures value { result.now ≡ self.now.endpoint.id }
         ensures some { 0 < length self.now.endpoint.id }
@@ -141,13 +142,13 @@ impl Setup {
     {
         match str::from_utf8(self.endpoint.id.as_slice()) {
             Ok(id) => id,
-            // characters of ASCII are UTF-8
+            // ASCII characters are UTF-8, so this can't happen
             Err(_) => unreachable!(),
         }
     }
 
-    /// Returns the configuration with which an endpoint of this setup starts (M2-104-UM, Stream
-    /// Configuration Notification): the protocol is the setup's.
+    /// Returns the configuration with which an endpoint of this setup starts (M2-104-UM, Stream Configuration
+    /// Notification). The protocol is the setup's.
     pub fn config(&self) -> Config
         ensures { result.protocol ≡ self.now.endpoint.protocol }
     {

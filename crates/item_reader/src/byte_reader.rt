@@ -10,7 +10,7 @@ use crate::reader::ItemReader;
 use outside::{ReadStop, Source};
 use std::marker::Model;
 
-/// Each byte is an item.
+/// The way of cutting in which each byte is an item.
 #[derive(Clone, Copy, Debug, PartialEq, Eq)]
 pub struct EachByte;
 
@@ -34,7 +34,7 @@ impl Cut for EachByte {
     ghost lengths = { λ _. byte_length };
 }
 
-/// Gives out the bytes of a source one by one. To a contract it is its `Reading`.
+/// Returns the bytes of a source one at a time. In contracts its value is its `Reading`.
 #[derive(Drop)]
 pub struct ByteReader {
     items: ItemReader<EachByte>,
@@ -54,7 +54,7 @@ impl Model for ByteReader {
 }
 
 impl ByteReader {
-    /// A reader that gives out at most `limit` bytes, which is at most 2^62 (own rule).
+    /// Creates a reader that returns at most `limit` bytes. The limit is at most 2^62 (own rule).
     pub fn new(limit: u64) -> ByteReader
         requires { limit ≤ 2 ^ 62 }
         ensures { result ≡ new_bytes limit }
@@ -64,10 +64,12 @@ impl ByteReader {
         }
     }
 
-    /// The next byte and its offset, counted in bytes from 0, or `None` at the end. After an `Err(Read(..))`,
-    /// which changes nothing here, a later call goes on from there. `Err(TooLong)` says that the limit's
-    /// bytes were given and that there are more. `None` and `TooLong` are given again from then on, and the
-    /// source is not asked again. `Truncated` is never answered.
+    /// Returns the next byte and its offset, counted in bytes from 0, or `None` at the end.
+    ///
+    /// An `Err(Read(..))` changes nothing in the reader, and a later call continues from there.
+    /// `Err(TooLong)` means that the reader has returned as many bytes as its limit allows, and the source
+    /// has more. After `None` or `TooLong`, each later call returns the same and doesn't read the source.
+    /// `Truncated` is never returned.
     #[inline(always)]
     pub fn next<S: Source>(&mut self, src: &mut S) -> Result<Option<(u8, u64)>, ReadStop>
         ensures answer { self.old.end ≡ None → Answers one_byte byte_at
@@ -81,9 +83,9 @@ impl ByteReader {
         self.items.next(src)
     }
 
-    /// The bytes that the reader holds and may give out, and the offset of the first of them, counted in
-    /// bytes from 0. A caller that reads many bytes finds them here by `item_in`, and reports by `pass`
-    /// how many it has used.
+    /// Returns the bytes that the reader has read ahead and may return, and the offset of the first of
+    /// them, counted in bytes from 0. A caller that reads many bytes takes them from here with `item_in`,
+    /// and then tells `pass` how many it has used.
     #[inline(always)]
     pub fn held(&self) -> (&[u8], u64)
         ensures bytes { result.0.now ≡ held_bytes self.now }
@@ -92,9 +94,9 @@ impl ByteReader {
         self.items.held()
     }
 
-    /// The byte after the first `at` of the bytes that `held` returned, with its offset and the place of
-    /// the next one: what `next` would return there. `None` exactly if no byte is left there. `offset` is
-    /// the offset of the first of the bytes.
+    /// Returns the byte at place `at` of the bytes that `held` returned, with its offset, and the place of
+    /// the next byte: `next` would return the same byte there. `None` exactly if no byte is left at that
+    /// place. `offset` is the offset of the first byte of `held`.
     #[inline(always)]
     pub fn item_in(&self, held: &[u8], offset: u64, at: usize) -> Option<((u8, u64), usize)>
         requires held { held.now ≡ held_bytes self.now }
@@ -106,7 +108,7 @@ impl ByteReader {
         self.items.item_in(held, offset, at)
     }
 
-    /// Goes on after the first `count` bytes of those that `held` gives, as after bytes that were given out.
+    /// Skips the first `count` of the bytes that `held` returns, as if `next` had returned them.
     #[inline(always)]
     pub fn pass(&mut self, count: usize)
         requires { count ≤ allowed_bytes self.old }
@@ -115,9 +117,10 @@ impl ByteReader {
         self.items.pass(count);
     }
 
-    /// Asks the source until a byte is held within the limit, unless the bytes have ended. `true` says
-    /// that one is held; the answers without a byte are those of `next`, with `false` for its `None`. The
-    /// reader asks the source only when it holds no byte. It never answers `Truncated`.
+    /// Reads the source until the reader has a byte within the limit, unless the bytes have ended, and
+    /// returns `true` if it has one. Without a byte, it returns what `next` would return, with `false`
+    /// instead of `None`. The reader reads the source only if it has no byte left. `Truncated` is never
+    /// returned.
     #[inline(always)]
     pub fn more<S: Source>(&mut self, src: &mut S) -> Result<bool, ReadStop>
         ensures answer { self.old.end ≡ None → Brings one_byte

@@ -1,4 +1,7 @@
-//! How a stream of bytes is cut into items, and the reader of them.
+//! Cuts a stream of bytes into items of one to sixteen bytes, and reads them one at a time.
+//!
+//! Start with [`Cut`], which says where an item ends, and [`ItemReader`], which reads the items from a
+//! source. [`ByteReader`] reads single bytes.
 #![tactic(auto)]
 
 pub mod byte_reader;

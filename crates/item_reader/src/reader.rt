@@ -12,7 +12,7 @@ use crate::window::Window;
 use outside::{Failed, ReadStop, Source};
 use std::marker::Model;
 
-/// Cuts the bytes of a source into items. To a contract it is its `Reading`.
+/// Cuts the bytes of a source into items. In contracts its value is its `Reading`.
 #[derive(Drop)]
 pub struct ItemReader<H> {
     how: H,
@@ -41,8 +41,8 @@ impl<H> Model for ItemReader<H> {
 }
 
 impl<H: Cut> ItemReader<H> {
-    /// A reader that has given out nothing yet. It gives out at most `limit` bytes, which is at most 2^62
-    /// (own rule); offsets count bytes from 0.
+    /// Creates a reader that has returned nothing yet. It returns items from at most `limit` bytes, which
+    /// is at most 2^62 (own rule). Offsets are counted in bytes from 0.
     pub fn new(how: H, limit: u64) -> Self
         requires { limit ≤ 2 ^ 62 }
         ensures { result ≡ new_reading how limit }
@@ -56,14 +56,17 @@ impl<H: Cut> ItemReader<H> {
         }
     }
 
-    /// The next item; `None` when the source ends with the last item.
+    /// Returns the next item, or `None` if the source ends with the last item.
     ///
-    /// `Truncated` is returned when the source ends within the limit and within an item, after some of
-    /// its bytes. It carries the offset of that item. `TooLong` is returned when the source gave more
-    /// bytes than the limit, and the rest within the limit is no whole item (own rule). `Read` is
-    /// returned only when the source's count of faults rose; no byte is lost, and a later call continues
-    /// from there. Every later call repeats any other answer without an item. The reader asks the source
-    /// only when it holds no whole item.
+    /// * `Truncated`: the source ended within the limit and within an item, after some bytes of that item.
+    ///   It has the offset of that item.
+    /// * `TooLong`: the source returned more bytes than the limit, and the remaining bytes within the limit
+    ///   are no whole item (own rule).
+    /// * `Read`: returned only if the source's count of faults rose. No byte is lost, and a later call
+    ///   continues from there.
+    ///
+    /// After any other result without an item, every later call returns the same. The reader reads the
+    /// source only if it has no whole item.
     #[inline(always)]
     pub fn next<S: Source>(&mut self, src: &mut S) -> Result<Option<H::Item>, ReadStop>
         ensures answer { self.old.end ≡ None →
@@ -83,7 +86,8 @@ impl<H: Cut> ItemReader<H> {
         }
     }
 
-    /// No whole item is held within the limit, so that `next` asks the source, unless the items have ended.
+    /// Returns whether no whole item has been read ahead within the limit. If so, `next` reads the source,
+    /// unless the items have ended.
     #[inline(always)]
     pub fn needs_input(&self) -> bool
         ensures { result ≡ needs_input (H.asked self.now.how) self.now }
@@ -92,9 +96,9 @@ impl<H: Cut> ItemReader<H> {
         self.how.asked(allowed) > allowed.len()
     }
 
-    /// The bytes that the reader holds and may give out, and the offset of the first of them, counted in
-    /// bytes from 0. A caller that reads many items finds them here by `item_in`, and reports by `pass`
-    /// how many bytes it has used.
+    /// Returns the bytes that the reader has read ahead and may return, and the offset of the first of
+    /// them, counted in bytes from 0. A caller that reads many items takes them from here with `item_in`,
+    /// and then tells `pass` how many bytes it has used.
     #[inline(always)]
     pub fn held(&self) -> (&[u8], u64)
         ensures bytes { result.0.now ≡ held_bytes self.now }
@@ -103,9 +107,9 @@ impl<H: Cut> ItemReader<H> {
         (self.window.allowed(), self.offset)
     }
 
-    /// The item that begins after `at` of the bytes that `held` returned, and the place at which the next
-    /// one begins: the item that `next` would return there. `None` exactly if no whole item begins there.
-    /// `offset` is the offset of the first of the bytes.
+    /// Returns the item that begins at place `at` of the bytes that `held` returned, and the place at which
+    /// the next item begins: `next` would return the same item there. `None` exactly if no whole item
+    /// begins at that place. `offset` is the offset of the first byte of `held`.
     #[inline(always)]
     pub fn item_in(&self, held: &[u8], offset: u64, at: usize) -> Option<(H::Item, usize)>
         requires held { held.now ≡ held_bytes self.now }
@@ -124,8 +128,9 @@ impl<H: Cut> ItemReader<H> {
         }
     }
 
-    /// The bytes after the first `at` of those that `held` returned, for a caller that finds out by
-    /// itself which item they begin with: if they contain all of it, the item is held there.
+    /// Returns the bytes from place `at` on of those that `held` returned. It is for a caller that
+    /// determines the item at their front by itself: if they contain all of the item, it is the one that
+    /// the reader would return there.
     #[inline(always)]
     pub fn rest_in<'h>(&self, held: &'h [u8], at: usize) -> &'h [u8]
         requires held { held.now ≡ held_bytes self.now }
@@ -139,7 +144,7 @@ impl<H: Cut> ItemReader<H> {
         &held[at..]
     }
 
-    /// Goes on after the first `count` bytes of those that `held` gives, as after items that were given out.
+    /// Skips the first `count` of the bytes that `held` returns, as if the items in them had been returned.
     #[inline(always)]
     pub fn pass(&mut self, count: usize)
         requires { count ≤ allowed_bytes self.old }
@@ -149,7 +154,7 @@ impl<H: Cut> ItemReader<H> {
         self.offset += count as u64;
     }
 
-    /// How it cuts.
+    /// Returns the way in which the reader cuts the stream.
     #[inline(always)]
     pub fn how(&self) -> &H
         ensures { result.now ≡ self.now.how }
@@ -157,9 +162,9 @@ impl<H: Cut> ItemReader<H> {
         &self.how
     }
 
-    /// Asks the source until a whole item is held, unless the items have ended. `true` says that one is
-    /// held; the answers without an item are those of `next`, with `false` for its `None`. The reader
-    /// asks the source only when it holds no whole item.
+    /// Reads the source until the reader has a whole item, unless the items have ended, and returns `true`
+    /// if it has one. Without an item, it returns what `next` would return, with `false` instead of `None`.
+    /// The reader reads the source only if it has no whole item.
     #[inline(never)]
     pub fn more<S: Source>(&mut self, src: &mut S) -> Result<bool, ReadStop>
         ensures answer { self.old.end ≡ None → Brings (H.asked self.old.how)
@@ -196,7 +201,8 @@ impl<H: Cut> ItemReader<H> {
         }
     }
 
-    // The next answer when no whole item is held: the source is asked, unless the items have ended.
+    // Returns the next item or end when no whole item has been read ahead. Reads the source, unless the
+    // items have ended.
     #[inline(always)]
     fn next_taken<S: Source>(&mut self, src: &mut S) -> Result<Option<H::Item>, ReadStop>
         ensures answer { self.old.end ≡ None →
@@ -214,7 +220,7 @@ impl<H: Cut> ItemReader<H> {
         Ok(Some(self.give(size)))
     }
 
-    // Gives out the next item, which has this many bytes.
+    // Returns the next item, which has `size` bytes, and moves on past it.
     #[inline(always)]
     fn give(&mut self, size: usize) -> H::Item
         requires seen { Sees (H.asked self.old.how) self.old.pending
@@ -233,18 +239,18 @@ impl<H: Cut> ItemReader<H> {
     }
 }
 
-/// What comes next.
+/// What the bytes that have been read ahead begin with.
 #[derive(Clone, Copy, Debug, PartialEq, Eq)]
 pub(crate) enum Front {
     /// An item of this many bytes.
     Item(usize),
-    /// More bytes than are allowed, and no item within those that are.
+    /// More bytes than the limit allows, and no item within those that it allows.
     TooLong,
     /// No whole item yet.
     Partial,
 }
 
-// Looks for an item at the front of the bytes, of which at most `room` may be given out.
+// Looks for an item at the front of the bytes, of which the reader may return at most `room`.
 #[inline(always)]
 fn front_of<H: Cut>(how: &H, bytes: &[u8], room: u64) -> Front
     ensures { Sees (H.asked how.now) bytes.now room result }
@@ -260,7 +266,7 @@ fn front_of<H: Cut>(how: &H, bytes: &[u8], room: u64) -> Front
     }
 }
 
-// The tail when the source has ended and these bytes are no item.
+// Returns the tail of a source that has ended, if these remaining bytes are no whole item.
 fn tail_at(bytes: &[u8], offset: u64) -> Tail
     ensures { result ≡ (if length bytes.now == 0 then Tail.End else Tail.Truncated offset) }
 {
@@ -271,7 +277,7 @@ fn tail_at(bytes: &[u8], offset: u64) -> Tail
     }
 }
 
-// The answer of `more` for a tail.
+// Returns the result of `more` for a tail.
 fn more_of(tail: Tail) -> Result<bool, ReadStop>
     ensures { result ≡ more_of tail }
 {
@@ -282,7 +288,7 @@ fn more_of(tail: Tail) -> Result<bool, ReadStop>
     }
 }
 
-// The item that is held at the front, or the answer if that is no whole item.
+// Looks for an item at the front of the window. If there is no whole item yet, reads the source first.
 #[inline(never)]
 fn look_ahead<H: Cut, S: Source>(
     how: &H,
@@ -305,7 +311,7 @@ fn look_ahead<H: Cut, S: Source>(
     }
 }
 
-// Takes bytes until there is an item, too many bytes, or the end.
+// Reads the source until the window has an item or too many bytes, or until the source ends.
 fn take_more<H: Cut, S: Source>(
     how: &H,
     window: &mut Window,

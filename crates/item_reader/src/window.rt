@@ -8,13 +8,13 @@ use std::marker::Model;
 
 const SIZE: usize = 4096;
 
-/// Bytes that were taken from a source and not yet given out, of which those
-/// at the front are allowed to be. A contract sees both.
+/// The bytes that a reader has taken from a source and not yet returned. The reader may return a prefix of
+/// them. Contracts see the bytes and the length of that prefix.
 #[derive(Drop)]
 pub struct Window {
     bytes: [u8; 4096],
     start: usize,
-    // The number of the bytes that may be given out.
+    // The number of bytes that the reader may return.
     stop: usize,
     end: usize,
 }
@@ -34,7 +34,7 @@ impl Model for Window {
 }
 
 impl Window {
-    /// An empty window.
+    /// Creates an empty window.
     pub fn new() -> Self
         ensures { result ≡ record { bytes = []; allowed = 0 } }
     {
@@ -46,7 +46,7 @@ impl Window {
         }
     }
 
-    /// The bytes that it holds, at most 4,096.
+    /// Returns the bytes in the window, at most 4,096.
     #[inline]
     pub fn bytes(&self) -> &[u8]
         ensures bytes { result.now ≡ self.now.bytes }
@@ -55,7 +55,7 @@ impl Window {
         &self.bytes[self.start..self.end]
     }
 
-    /// Those that are allowed to be given out.
+    /// Returns the bytes that the reader may return.
     #[inline]
     pub fn allowed(&self) -> &[u8]
         ensures bytes { result.now ≡ take self.now.allowed self.now.bytes }
@@ -64,7 +64,7 @@ impl Window {
         &self.bytes[self.start..self.stop]
     }
 
-    /// Allows the bytes to be given out that are within this room.
+    /// Sets the number of bytes that the reader may return: all bytes in the window, but at most `room`.
     pub fn allow(&mut self, room: u64)
         ensures { self.new ≡ record self.old { allowed = min (length self.old.bytes) room } }
     {
@@ -76,7 +76,7 @@ impl Window {
         };
     }
 
-    /// Gives out the first `count` bytes.
+    /// Removes the first `count` bytes, which the reader may return.
     #[inline]
     pub fn consume(&mut self, count: usize)
         requires { count ≤ self.old.allowed }
@@ -88,8 +88,9 @@ impl Window {
         self.start += count;
     }
 
-    /// Takes more bytes by one `take`. The answer is false at the end of the source. After an `Err` the bytes
-    /// are as they were. How many are allowed isn't said until `allow` is called.
+    /// Takes more bytes from the source with one `take`. Returns `false` at the end of the source. After an
+    /// `Err` the bytes are unchanged. The number of bytes that the reader may return is unspecified until
+    /// `allow` is called.
     #[inline(never)]
     pub fn fill<S: Source>(&mut self, source: &mut S) -> Result<bool, Failed>
         requires { length self.old.bytes < 4096 }

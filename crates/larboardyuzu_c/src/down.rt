@@ -10,9 +10,9 @@ use c_translators::{CDown, Piece, down_size};
 use down_translator::Style;
 use std::alloc::Global;
 
-/// Opens a handle as a translator down: in compact style if the flag 1 is set and otherwise in plain style,
-/// and with paired controllers if the flag 2 is set (own rules). `room` is the most bytes of an exclusive, 6
-/// to 1,048,576. Takes all memory that the handle ever needs.
+/// Opens a handle as a translator down: in compact style if flag 1 is set, otherwise in plain style, and with
+/// paired controllers if flag 2 is set (own rules). `room` is the most bytes of an exclusive, 6 to 1,048,576.
+/// Allocates all the memory that the handle will ever need.
 ///
 /// Returns the first that applies of `BadRoom`, `BadFlags` (another flag), `AlreadyOpen` and `NoMemory`; the
 /// handle is then unchanged.
@@ -46,8 +46,8 @@ pub extern "C" fn larboardyuzu_down_open(
     }
 }
 
-/// Translates one packet to MIDI 1.0 bytes (M2-104-UM, default translation), as `CDown::packet` does: writes
-/// them to the front of `bytes`, and their number, lane and line to `piece`. Returns `HandleClosed` or
+/// Translates one packet to MIDI 1.0 bytes (M2-104-UM, default translation), as `CDown::packet` does. Writes
+/// the bytes to the front of `bytes`, and their number, lane and line to `piece`. Returns `HandleClosed` or
 /// `OtherKind`, with an empty piece, if the handle isn't open for this; otherwise the statuses of that call.
 #[unsafe(no_mangle)]
 pub extern "C" fn larboardyuzu_down_packet(
@@ -114,8 +114,9 @@ pub extern "C" fn larboardyuzu_down_size(room: u32) -> usize
     down_size(room)
 }
 
-/// Writes the offset of the packet that began the exclusive that a group has open. Returns `HandleClosed`,
-/// `OtherKind`, `BadGroup` if the group isn't 0 to 15, or `Nothing`; the offset is then unchanged.
+/// Writes the offset of the packet with which a group's open exclusive began. Returns `HandleClosed`,
+/// `OtherKind`, `BadGroup` if the group isn't 0 to 15, or `Nothing` if no exclusive is open; the offset is
+/// then unchanged.
 #[unsafe(no_mangle)]
 pub extern "C" fn larboardyuzu_down_begun(
     alloc: Global,
@@ -137,8 +138,8 @@ pub extern "C" fn larboardyuzu_down_begun(
     status.number()
 }
 
-/// Makes the handle as it was just after it was opened with the same arguments (own rule). Takes no memory.
-/// Returns `HandleClosed` or `OtherKind`, and changes nothing, if the handle isn't open for this.
+/// Returns the handle to the state that it had just after it was opened (own rule). The call doesn't
+/// allocate. Returns `HandleClosed` or `OtherKind`, and changes nothing, if the handle isn't open for this.
 #[unsafe(no_mangle)]
 pub extern "C" fn larboardyuzu_down_reset(alloc: Global, down: &mut Handle) -> u32
     ensures { IsReset down.old.holds result down.new.holds }
@@ -157,7 +158,7 @@ pub extern "C" fn larboardyuzu_down_reset(alloc: Global, down: &mut Handle) -> u
     status.number()
 }
 
-/// Closes a handle, whatever it is open for, and returns its memory. A closed handle stays closed.
+/// Closes a handle, whatever it is open for, and frees its memory. A closed handle stays closed.
 #[unsafe(no_mangle)]
 pub extern "C" fn larboardyuzu_down_close(alloc: Global, down: &mut Handle)
     ensures { down.new.holds ≡ None }

@@ -31,12 +31,12 @@ fn fill_endpoint(
 }
 
 /// Opens a handle as an endpoint of the setup in a text, which is TOML (docs/setup.md). `room` is the most
-/// bytes of an exclusive, 6 to 1,048,576. Takes all memory that the handle ever needs.
+/// bytes of an exclusive, 6 to 1,048,576. Allocates all the memory that the handle will ever need.
 ///
 /// Returns the first that applies of `BadRoom`, `AlreadyOpen`, `SetupSyntax` and `SetupRule`, or `NoMemory`,
-/// which may also come for a text with a fault; the handle is then unchanged. With `SetupRule` it writes the
-/// number of the first rule that is broken, 0 to 31, to `rule`, which is otherwise unchanged. A setup that is
-/// accepted keeps all rules, as the laws of an endpoint require (`consistent`).
+/// possibly also for a text with a fault. The handle is then unchanged. With `SetupRule`, the call writes the
+/// number of the first rule that the text breaks, 0 to 31, to `rule`, which is otherwise unchanged. A setup
+/// that is accepted keeps all rules, as the laws of an endpoint require (`consistent`).
 #[unsafe(no_mangle)]
 pub extern "C" fn larboardyuzu_endpoint_open(
     alloc: Global,
@@ -59,7 +59,7 @@ pub extern "C" fn larboardyuzu_endpoint_open(
     fill_endpoint(alloc, endpoint, text, room, rule).number()
 }
 
-/// Takes one packet of the peer and writes the words of the replies to it (M2-104-UM, UMP stream messages;
+/// Takes one packet of the peer and writes the words of the replies (M2-104-UM, UMP stream messages;
 /// M2-101-UM), as `CEndpoint::packet` does. Returns `HandleClosed` or `OtherKind`, with empty replies, if the
 /// handle isn't open for this; otherwise the statuses of that call.
 #[unsafe(no_mangle)]
@@ -146,8 +146,8 @@ pub extern "C" fn larboardyuzu_endpoint_protocol(
 }
 
 /// Writes the MUID in force of a function block, counted from 0 (M2-101-UM). Returns `HandleClosed`,
-/// `OtherKind`, or `Nothing` if the block has no MIDI-CI or has used up its MUIDs, or if there is no such
-/// block; the number is then unchanged.
+/// `OtherKind`, or `Nothing` if there is no such block, or if it has no MIDI-CI or has used up its MUIDs; the
+/// number is then unchanged.
 #[unsafe(no_mangle)]
 pub extern "C" fn larboardyuzu_endpoint_muid(
     alloc: Global,
@@ -169,8 +169,8 @@ pub extern "C" fn larboardyuzu_endpoint_muid(
     status.number()
 }
 
-/// Writes a profile, counted from 0 in the order of the setup, and whether it is on. Returns `HandleClosed`,
-/// `OtherKind` or `Nothing`, and writes an empty profile, if there is none.
+/// Writes a profile and whether it is enabled. Profiles are counted from 0 in the order of the setup. Returns
+/// `HandleClosed`, `OtherKind` or, if there is no such profile, `Nothing`; the profile written is then empty.
 #[unsafe(no_mangle)]
 pub extern "C" fn larboardyuzu_endpoint_profile(
     alloc: Global,
@@ -196,8 +196,9 @@ pub extern "C" fn larboardyuzu_endpoint_profile(
     status.number()
 }
 
-/// Writes the offset of the packet that began the exclusive that a group has open. Returns `HandleClosed`,
-/// `OtherKind`, `BadGroup` if the group isn't 0 to 15, or `Nothing`; the offset is then unchanged.
+/// Writes the offset of the packet with which a group's open exclusive began. Returns `HandleClosed`,
+/// `OtherKind`, `BadGroup` if the group isn't 0 to 15, or `Nothing` if no exclusive is open; the offset is
+/// then unchanged.
 #[unsafe(no_mangle)]
 pub extern "C" fn larboardyuzu_endpoint_begun(
     alloc: Global,
@@ -219,9 +220,9 @@ pub extern "C" fn larboardyuzu_endpoint_begun(
     status.number()
 }
 
-/// Makes the handle as it was just after it was opened with the same setup (own rule): protocol, MUIDs and
-/// profiles are those of the setup again. Takes no memory. Returns `HandleClosed` or `OtherKind`, and changes
-/// nothing, if the handle isn't open for this.
+/// Returns the handle to the state that it had just after it was opened (own rule): the protocol, the MUIDs
+/// and the profiles are those of the setup. The call doesn't allocate. Returns `HandleClosed` or `OtherKind`,
+/// and changes nothing, if the handle isn't open for this.
 #[unsafe(no_mangle)]
 pub extern "C" fn larboardyuzu_endpoint_reset(alloc: Global, endpoint: &mut Handle) -> u32
     ensures { IsReset endpoint.old.holds result endpoint.new.holds }
@@ -240,7 +241,7 @@ pub extern "C" fn larboardyuzu_endpoint_reset(alloc: Global, endpoint: &mut Hand
     status.number()
 }
 
-/// Closes a handle, whatever it is open for, and returns its memory. A closed handle stays closed.
+/// Closes a handle, whatever it is open for, and frees its memory. A closed handle stays closed.
 #[unsafe(no_mangle)]
 pub extern "C" fn larboardyuzu_endpoint_close(alloc: Global, endpoint: &mut Handle)
     ensures { endpoint.new.holds ≡ None }

@@ -1,4 +1,5 @@
-//! The library for C: the calls of `include/larboardyuzu.h`.
+//! Implements the library for C: each function is a call that `include/larboardyuzu.h` declares. The calls
+//! with a handle work on a `c_handles::Handle`. `docs/c-library.md` shows how to use them.
 #![tactic(auto)]
 
 mod down;

@@ -18,7 +18,7 @@ pub extern "C" fn larboardyuzu_parser_size(room: u32) -> usize
 }
 
 /// Opens a handle as a parser, with nothing open and no running status. `room` is the most bytes of an
-/// exclusive, 6 to 1,048,576. Takes all memory that the handle ever needs.
+/// exclusive, 6 to 1,048,576. Allocates all the memory that the handle will ever need.
 ///
 /// Returns the first that applies of `BadRoom`, `AlreadyOpen` and `NoMemory`; the handle is then unchanged.
 #[unsafe(no_mangle)]
@@ -98,7 +98,7 @@ pub extern "C" fn larboardyuzu_parser_bytes(
     status.number()
 }
 
-/// Writes the line of the message or exclusive that is open at the end of the stream, with the offset of its
+/// Writes the line for the message or exclusive that is open at the end of the stream, with the offset of its
 /// first byte. Returns `HandleClosed`, `OtherKind`, or `Nothing` if nothing is open; the line is then
 /// unchanged.
 #[unsafe(no_mangle)]
@@ -121,8 +121,8 @@ pub extern "C" fn larboardyuzu_parser_end(
     status.number()
 }
 
-/// Makes the handle as it was just after it was opened with the same arguments (own rule). Takes no memory.
-/// Returns `HandleClosed` or `OtherKind`, and changes nothing, if the handle isn't open for this.
+/// Returns the handle to the state that it had just after it was opened (own rule). The call doesn't
+/// allocate. Returns `HandleClosed` or `OtherKind`, and changes nothing, if the handle isn't open for this.
 #[unsafe(no_mangle)]
 pub extern "C" fn larboardyuzu_parser_reset(alloc: Global, parser: &mut Handle) -> u32
     ensures { IsReset parser.old.holds result parser.new.holds }
@@ -141,7 +141,7 @@ pub extern "C" fn larboardyuzu_parser_reset(alloc: Global, parser: &mut Handle) 
     status.number()
 }
 
-/// Closes a handle, whatever it is open for, and returns its memory. A closed handle stays closed.
+/// Closes a handle, whatever it is open for, and frees its memory. A closed handle stays closed.
 #[unsafe(no_mangle)]
 pub extern "C" fn larboardyuzu_parser_close(alloc: Global, parser: &mut Handle)
     ensures { parser.new.holds ≡ None }

@@ -8,10 +8,10 @@ use c_handles::{Engine, Handle};
 use c_voice_state::{CByteState, CPacketState, FactNumbers};
 use std::alloc::Global;
 
-/// The flag of a state of bytes.
+/// The flag for a state of bytes.
 const OF_BYTES: u32 = 4;
 
-// Reports no fact, for a handle that isn't open for this.
+// Reports no fact, because the handle isn't open for this.
 fn untold(why: Status, written: &mut usize, need: &mut usize) -> Status
     ensures status { result ≡ why }
     ensures none { (written.new ≡ 0) × (need.new ≡ 0) }
@@ -49,10 +49,10 @@ fn fill_bytes(alloc: Global, state: &mut Handle, room: u32, notes: u32, params: 
     }
 }
 
-/// Opens a handle as the state before the first packet, or with the flag 4 before the first byte of a stream.
-/// `room` is the most bytes of an exclusive, 6 to 1,048,576. The state keeps at most `notes` notes and mode
-/// messages of each channel, 0 to 1,048,576, and at most `params` parameters of each kind and channel, 0 to
-/// 16,384 (own rule). Takes all memory that the handle ever needs.
+/// Opens a handle as the state before the first packet, or with flag 4 as the state before the first byte of
+/// a stream. `room` is the most bytes of an exclusive, 6 to 1,048,576. The state stores at most `notes` notes
+/// and mode messages of each channel, 0 to 1,048,576, and at most `params` parameters of each kind and
+/// channel, 0 to 16,384 (own rule). Allocates all the memory that the handle will ever need.
 ///
 /// Returns the first that applies of `BadRoom` (one of the three numbers), `BadFlags` (another flag),
 /// `AlreadyOpen` and `NoMemory`; the handle is then unchanged.
@@ -173,9 +173,9 @@ pub extern "C" fn larboardyuzu_state_bytes(
 }
 
 /// Writes the facts of one channel of a group, or with channel 255 the counts of the group's system messages,
-/// and their number to `written`. Returns `HandleClosed`, `OtherKind`, `BadGroup`, `BadChannel`, or
-/// `SmallBuffer`, with the number of facts in `need`; it then writes no fact. `written` and `need` are
-/// otherwise 0.
+/// and their number to `written`. Returns `HandleClosed`, `OtherKind`, `BadGroup`, `BadChannel` or
+/// `SmallBuffer`, and then writes no fact. With `SmallBuffer`, `need` is the number of facts. In all other
+/// cases `need` is 0, and after a failure `written` is 0.
 #[unsafe(no_mangle)]
 pub extern "C" fn larboardyuzu_state_facts(
     alloc: Global,
@@ -202,9 +202,9 @@ pub extern "C" fn larboardyuzu_state_facts(
     status.number()
 }
 
-/// Makes the handle as it was just after it was opened with the same arguments (own rule): a state without
-/// facts. Takes no memory. Returns `HandleClosed` or `OtherKind`, and changes nothing, if the handle isn't
-/// open for this.
+/// Returns the handle to the state that it had just after it was opened (own rule): it has no facts. The call
+/// doesn't allocate. Returns `HandleClosed` or `OtherKind`, and changes nothing, if the handle isn't open for
+/// this.
 #[unsafe(no_mangle)]
 pub extern "C" fn larboardyuzu_state_reset(alloc: Global, state: &mut Handle) -> u32
     ensures { IsReset state.old.holds result state.new.holds }
@@ -227,7 +227,7 @@ pub extern "C" fn larboardyuzu_state_reset(alloc: Global, state: &mut Handle) ->
     status.number()
 }
 
-/// Closes a handle, whatever it is open for, and returns its memory. A closed handle stays closed.
+/// Closes a handle, whatever it is open for, and frees its memory. A closed handle stays closed.
 #[unsafe(no_mangle)]
 pub extern "C" fn larboardyuzu_state_close(alloc: Global, state: &mut Handle)
     ensures { state.new.holds ≡ None }

@@ -1,4 +1,4 @@
-// The calls that join 8-bit exclusives, and the one that cuts one into packets.
+// The calls that join 8-bit exclusives, and the call that cuts one into packets.
 ghost use Rattle.std.specs.Prelude.{◌≡◌, None};
 ghost use Rattle.c_pure.specs.Sysex8.{IsCut};
 ghost use Rattle.larboardyuzu_c.specs.Sysex8Calls.{AreTaken, HasBegun, IsOpened, IsReset, IsTaken};
@@ -8,8 +8,9 @@ use c_handles::{Engine, Handle};
 use c_streams::{CSysex8, JoinedPart};
 use std::alloc::Global;
 
-/// Opens a handle as a join of 8-bit exclusives, of which `streams`, 1 to 64, may be open at once. `room` is
-/// the most bytes of one, 13 to 1,048,576. Takes all memory that the handle ever needs.
+/// Opens a handle as a join of 8-bit exclusives, of which at most `streams`, 1 to 64, are open at once.
+/// `room` is the most bytes of an exclusive, 13 to 1,048,576. Allocates all the memory that the handle will
+/// ever need.
 ///
 /// Returns the first that applies of `BadRoom`, `BadStreams`, `AlreadyOpen` and `NoMemory`; the handle is
 /// then unchanged.
@@ -97,9 +98,9 @@ pub extern "C" fn larboardyuzu_sysex8_packets(
     status.number()
 }
 
-/// Writes the offset of the packet that began the exclusive that a stream of a group has open. Returns
-/// `HandleClosed`, `OtherKind`, `BadGroup` if the group isn't 0 to 15, or `Nothing`; the offset is then
-/// unchanged.
+/// Writes the offset of the packet with which the open exclusive of a group's stream began. Returns
+/// `HandleClosed`, `OtherKind`, `BadGroup` if the group isn't 0 to 15, or `Nothing` if no exclusive is open;
+/// the offset is then unchanged.
 #[unsafe(no_mangle)]
 pub extern "C" fn larboardyuzu_sysex8_begun(
     alloc: Global,
@@ -122,8 +123,8 @@ pub extern "C" fn larboardyuzu_sysex8_begun(
     status.number()
 }
 
-/// Makes the handle as it was just after it was opened with the same arguments (own rule). Takes no memory.
-/// Returns `HandleClosed` or `OtherKind`, and changes nothing, if the handle isn't open for this.
+/// Returns the handle to the state that it had just after it was opened (own rule). The call doesn't
+/// allocate. Returns `HandleClosed` or `OtherKind`, and changes nothing, if the handle isn't open for this.
 #[unsafe(no_mangle)]
 pub extern "C" fn larboardyuzu_sysex8_reset(alloc: Global, sysex8: &mut Handle) -> u32
     ensures { IsReset sysex8.old.holds result sysex8.new.holds }
@@ -142,7 +143,7 @@ pub extern "C" fn larboardyuzu_sysex8_reset(alloc: Global, sysex8: &mut Handle) 
     status.number()
 }
 
-/// Closes a handle, whatever it is open for, and returns its memory. A closed handle stays closed.
+/// Closes a handle, whatever it is open for, and frees its memory. A closed handle stays closed.
 #[unsafe(no_mangle)]
 pub extern "C" fn larboardyuzu_sysex8_close(alloc: Global, sysex8: &mut Handle)
     ensures { sysex8.new.holds ≡ None }
@@ -150,9 +151,9 @@ pub extern "C" fn larboardyuzu_sysex8_close(alloc: Global, sysex8: &mut Handle)
     let _held = sysex8.take(alloc);
 }
 
-/// Writes the four words of a packet, counted from 0, of an 8-bit exclusive with these bytes (M2-104-UM,
-/// system exclusive 8-bit messages), as `c_pure::sysex8_cut` does. Returns `SmallBuffer`, `BadGroup` or
-/// `Nothing`, and writes nothing, as that call says.
+/// Writes the four words of packet `index`, counted from 0, of an 8-bit exclusive with these bytes
+/// (M2-104-UM, system exclusive 8-bit messages), as `c_pure::sysex8_cut` does. Returns `SmallBuffer`,
+/// `BadGroup` or `Nothing`, and writes nothing, as that call says.
 #[unsafe(no_mangle)]
 pub extern "C" fn larboardyuzu_sysex8_cut(
     group: u8,

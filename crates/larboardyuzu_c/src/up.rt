@@ -10,9 +10,9 @@ use c_translators::{CUp, up_size};
 use small_types::U4;
 use std::alloc::Global;
 
-/// Opens a handle as a translator up into a group, 0 to 15, with paired controllers if the flag 2 is set (own
-/// rule). `room` is the most bytes of an exclusive, 6 to 1,048,576. Takes all memory that the handle ever
-/// needs.
+/// Opens a handle as a translator up that writes packets of a group, 0 to 15, with paired controllers if flag
+/// 2 is set (own rule). `room` is the most bytes of an exclusive, 6 to 1,048,576. Allocates all the memory
+/// that the handle will ever need.
 ///
 /// Returns the first that applies of `BadRoom`, `BadGroup`, `BadFlags` (another flag), `AlreadyOpen` and
 /// `NoMemory`; the handle is then unchanged.
@@ -45,7 +45,8 @@ pub extern "C" fn larboardyuzu_up_open(
     }
 }
 
-// Takes one byte if `CUp::direct` does. Such a byte needs few registers, so it has a function of its own.
+// Takes one byte if `CUp::direct` takes it. Such a byte needs few registers, so this is a function of its
+// own.
 #[inline(always)]
 fn take_direct(
     held: &mut Engine,
@@ -144,8 +145,8 @@ pub extern "C" fn larboardyuzu_up_bytes(
     status.number()
 }
 
-/// Returns the least size, in words, of a buffer for what any byte completes, if an exclusive has at most
-/// `room` bytes (own rule).
+/// Returns the least size, in words, of a buffer for the packets that any byte completes, if an exclusive has
+/// at most `room` bytes (own rule).
 #[unsafe(no_mangle)]
 pub extern "C" fn larboardyuzu_up_size(room: u32) -> usize
     ensures { result ≡ most_words_of room }
@@ -153,7 +154,7 @@ pub extern "C" fn larboardyuzu_up_size(room: u32) -> usize
     up_size(room)
 }
 
-/// Writes the line of the message or exclusive that is open at the end of the stream, with the offset of its
+/// Writes the line for the message or exclusive that is open at the end of the stream, with the offset of its
 /// first byte. Returns `HandleClosed`, `OtherKind`, or `Nothing` if nothing is open; the line is then
 /// unchanged.
 #[unsafe(no_mangle)]
@@ -172,8 +173,8 @@ pub extern "C" fn larboardyuzu_up_end(alloc: Global, up: &mut Handle, line: &mut
     status.number()
 }
 
-/// Makes the handle as it was just after it was opened with the same arguments (own rule). Takes no memory.
-/// Returns `HandleClosed` or `OtherKind`, and changes nothing, if the handle isn't open for this.
+/// Returns the handle to the state that it had just after it was opened (own rule). The call doesn't
+/// allocate. Returns `HandleClosed` or `OtherKind`, and changes nothing, if the handle isn't open for this.
 #[unsafe(no_mangle)]
 pub extern "C" fn larboardyuzu_up_reset(alloc: Global, up: &mut Handle) -> u32
     ensures { IsReset up.old.holds result up.new.holds }
@@ -192,7 +193,7 @@ pub extern "C" fn larboardyuzu_up_reset(alloc: Global, up: &mut Handle) -> u32
     status.number()
 }
 
-/// Closes a handle, whatever it is open for, and returns its memory. A closed handle stays closed.
+/// Closes a handle, whatever it is open for, and frees its memory. A closed handle stays closed.
 #[unsafe(no_mangle)]
 pub extern "C" fn larboardyuzu_up_close(alloc: Global, up: &mut Handle)
     ensures { up.new.holds ≡ None }

@@ -19,7 +19,7 @@ pub extern "C" fn larboardyuzu_usb_size(room: u32) -> usize
 }
 
 /// Opens a handle as a packer into the events of a cable, 0 to 15. `room` is the most bytes of an exclusive,
-/// 6 to 1,048,576. Takes all memory that the handle ever needs.
+/// 6 to 1,048,576. Allocates all the memory that the handle will ever need.
 ///
 /// Returns the first that applies of `BadRoom`, `BadGroup` (the cable), `AlreadyOpen` and `NoMemory`; the
 /// handle is then unchanged.
@@ -108,7 +108,7 @@ pub extern "C" fn larboardyuzu_usb_bytes(
     status.number()
 }
 
-/// Writes the line of the message or exclusive that is open at the end of the stream, with the offset of its
+/// Writes the line for the message or exclusive that is open at the end of the stream, with the offset of its
 /// first byte. Returns `HandleClosed`, `OtherKind`, or `Nothing` if nothing is open; the line is then
 /// unchanged.
 #[unsafe(no_mangle)]
@@ -131,8 +131,8 @@ pub extern "C" fn larboardyuzu_usb_end(
     status.number()
 }
 
-/// Makes the handle as it was just after it was opened with the same arguments (own rule). Takes no memory.
-/// Returns `HandleClosed` or `OtherKind`, and changes nothing, if the handle isn't open for this.
+/// Returns the handle to the state that it had just after it was opened (own rule). The call doesn't
+/// allocate. Returns `HandleClosed` or `OtherKind`, and changes nothing, if the handle isn't open for this.
 #[unsafe(no_mangle)]
 pub extern "C" fn larboardyuzu_usb_reset(alloc: Global, usb: &mut Handle) -> u32
     ensures { IsReset usb.old.holds result usb.new.holds }
@@ -151,7 +151,7 @@ pub extern "C" fn larboardyuzu_usb_reset(alloc: Global, usb: &mut Handle) -> u32
     status.number()
 }
 
-/// Closes a handle, whatever it is open for, and returns its memory. A closed handle stays closed.
+/// Closes a handle, whatever it is open for, and frees its memory. A closed handle stays closed.
 #[unsafe(no_mangle)]
 pub extern "C" fn larboardyuzu_usb_close(alloc: Global, usb: &mut Handle)
     ensures { usb.new.holds ≡ None }
@@ -160,7 +160,7 @@ pub extern "C" fn larboardyuzu_usb_close(alloc: Global, usb: &mut Handle)
 }
 
 /// Writes the cable of an event of four bytes, and the bytes that it carries, as `split_event` does. Returns
-/// `BadSize` or `Nothing`, and writes nothing, if the size isn't 4 or the event's code is reserved.
+/// `BadSize` if the size isn't 4, or `Nothing` if the event's code is reserved; nothing is written then.
 #[unsafe(no_mangle)]
 pub extern "C" fn larboardyuzu_usb_carried(event: &[u8], carried: &mut CarriedBytes) -> u32
     ensures { IsCarried event.now result carried.old carried.new }

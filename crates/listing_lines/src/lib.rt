@@ -1,5 +1,9 @@
-//! What the passes put and say of what is listed or refused: the lines of the listing in the notes, those of
-//! the exclusives that are still open, and the end at a refusal.
+//! Writes the lines of the listing to the notes, for the passes: lines for single packets and bytes, and
+//! lines for exclusives that are still open at the end. It also returns the end of a pass that refuses its
+//! input.
+//!
+//! Start with [`put_listed`], which writes the line for one packet, if there is one, and [`list_open`], for
+//! the end of an input.
 #![tactic(auto)]
 
 mod lines;

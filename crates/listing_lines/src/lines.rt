@@ -9,8 +9,8 @@ use listing_terms::{ByteLines, Listed};
 use pass_loop::{Outputs, RunEnd};
 use text_lines::{Line, fill_listing_line};
 
-/// Puts a line of the listing in the notes. An `Err` is `NoteFault`, and
-/// comes only if the count of the notes' faults rose.
+/// Writes a line of the listing to the notes. The error is always `NoteFault`, and is returned only if the
+/// notes' count of faults rose.
 #[inline(never)]
 pub fn put_line<O: Outputs>(listed: &Listed, outputs: &mut O) -> Result<(), RunEnd>
     ensures { Puts (line_puts (listed.now ∷ [])) (O.places outputs.old) (O.places outputs.new) result }
@@ -20,8 +20,8 @@ pub fn put_line<O: Outputs>(listed: &Listed, outputs: &mut O) -> Result<(), RunE
     outputs.put_notes(line.as_slice())
 }
 
-/// Puts a line of the listing in the notes, if there is one. An `Err` is `NoteFault`, and comes only if
-/// the count of the notes' faults rose. Mostly there is no line, so only that question stands at each call.
+/// Writes a line of the listing to the notes, if there is one. The error is always `NoteFault`, and is
+/// returned only if the notes' count of faults rose. Most packets have no line, so only that test is inlined.
 #[inline(always)]
 pub fn put_listed<O: Outputs>(listed: Option<Listed>, outputs: &mut O) -> Result<(), RunEnd>
     ensures { Puts (line_puts (option_to_list listed)) (O.places outputs.old) (O.places outputs.new) result }
@@ -32,8 +32,8 @@ pub fn put_listed<O: Outputs>(listed: Option<Listed>, outputs: &mut O) -> Result
     }
 }
 
-/// Puts the lines of a byte in the notes, in order. An `Err` is `NoteFault`, and comes only if the count
-/// of the notes' faults rose. Most bytes have no line, so that is asked first.
+/// Writes the lines for a byte to the notes, in order. The error is always `NoteFault`, and is returned only
+/// if the notes' count of faults rose. Most bytes have no line, so that is tested first.
 #[inline(always)]
 pub fn put_lines<O: Outputs>(lines: &ByteLines, outputs: &mut O) -> Result<(), RunEnd>
     ensures { Puts (line_puts (lines_in lines.now)) (O.places outputs.old) (O.places outputs.new) result }
@@ -41,7 +41,8 @@ pub fn put_lines<O: Outputs>(lines: &ByteLines, outputs: &mut O) -> Result<(), R
     if lines.is_empty() {
         return Ok(());
     }
-    // The second line is asked for once the first is put: nearly all bytes that have a line have no second.
+    // The second line is tested only after the first is written, because nearly all bytes that have a line
+    // have only one.
     put_listed(lines.first(), outputs)?;
     put_listed(lines.second(), outputs)
 }

@@ -1,4 +1,4 @@
-// The lines of the exclusives that are still open.
+// The lines for exclusives that are still open.
 ghost use Rattle.std.specs.Prelude.{◌≡◌};
 ghost use Rattle.std.specs.Option.{option_map, option_to_list};
 ghost use Rattle.sysex_groups.specs.Table.{Table, begun_in};
@@ -12,12 +12,13 @@ use listing_terms::{Kind, Listed};
 use pass_loop::{Outputs, RunEnd};
 use small_types::U4;
 
-/// Tells what groups have open.
+/// Says which groups have an open exclusive.
 pub trait OpenExclusives {
-    /// What each group has open.
+    /// The exclusive that each group has open.
     ghost table: { Self → Table };
 
-    /// The offset of the packet that began the group's exclusive; `None` exactly when nothing is open.
+    /// Returns the offset of the packet with which the group's open exclusive began, or `None` exactly if no
+    /// exclusive is open.
     fn begun_at(&self, group: U4) -> Option<u64>
         ensures { result ≡ option_map (λ begun. begun.start) (begun_in (table self.now) group) };
 }
@@ -44,8 +45,8 @@ fn list_group<H: OpenExclusives, O: Outputs>(
     }
 }
 
-/// Puts the lines of the exclusives that are still open in the notes, by group (own rule). An `Err` is
-/// `NoteFault`, and comes only if the count of the notes' faults rose.
+/// Writes the lines for the exclusives that are still open to the notes, in order of group (own rule). The
+/// error is always `NoteFault`, and is returned only if the notes' count of faults rose.
 pub fn list_open<H: OpenExclusives, O: Outputs>(held: &H, outputs: &mut O) -> Result<(), RunEnd>
     ensures { Puts (open_puts (H.table held.now) groups)
         (O.places outputs.old) (O.places outputs.new) result }

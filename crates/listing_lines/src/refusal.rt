@@ -1,11 +1,11 @@
-// The end at what is refused.
+// The end of a pass that refuses its input.
 ghost use Rattle.std.specs.Prelude.{◌≡◌};
 ghost use Rattle.listing_lines.specs.Refusal.{reason_of};
 
 use listing_terms::BadStep;
 use pass_loop::{Reason, RunEnd};
 
-/// The end at the packet or byte of this offset, which is refused.
+/// Returns the end of a pass that refuses the packet or byte at this offset.
 pub fn refused(bad: BadStep, offset: u64) -> RunEnd
     ensures { result ≡ RunEnd.Refused (reason_of bad) offset }
 {

@@ -1,21 +1,21 @@
-// The lines of the listing that a byte has.
+// The lines of the listing for one byte.
 use crate::listed::{Kind, Listed};
 use small_types::{LentU4, U4};
 
-/// A line of the listing that a byte has (own rule). Its group is that of the byte.
+/// A line of the listing for a byte (own rule). Its group is the byte's group.
 #[derive(Clone, Copy, Debug)]
 pub struct ByteLine {
-    /// The offset of the line, a number of input bytes: for a cut or open message or exclusive the offset
-    /// of its start, for an ignored data entry that of the byte that completes it, for a stray or
-    /// undefined byte its own.
+    /// The offset of the line, in input bytes. For a message or exclusive that is cut off or open, it is
+    /// the offset of the start. For an ignored data entry, it is the offset of the byte that completes the
+    /// data entry. For a stray or undefined byte, it is the offset of that byte.
     pub offset: u64,
     /// The kind of the line.
     pub kind: Kind,
 }
 
-/// The lines of the listing that a byte has (own rule): at most two, both in one group, in order. What the
-/// byte cuts off comes first, and then what the byte is itself. A stream on a USB cable has the cable as its
-/// group.
+/// The lines of the listing for one byte (own rule): at most two, in order and both in one group. The line
+/// of the message that the byte cuts off comes before the line of the byte itself. The group of a stream on
+/// a USB cable is the number of the cable.
 #[derive(Clone, Copy, Debug)]
 pub struct ByteLines {
     group: LentU4,
@@ -39,7 +39,7 @@ impl ByteLines {
       IsInOrder,
     };
 
-    /// These lines in this group, 0 to 15. There is a second line only if there is a first.
+    /// Creates the lines in this group, 0 to 15. There is a second line only if there is a first.
     pub fn new(group: U4, first: Option<ByteLine>, second: Option<ByteLine>) -> ByteLines
         requires { AreInOrder first second }
         ensures group { group_of result ≡ group }
@@ -54,7 +54,7 @@ impl ByteLines {
         }
     }
 
-    /// Whether there is no line. Most bytes have none.
+    /// Returns whether there is no line. Most bytes have none.
     #[inline(always)]
     pub fn is_empty(&self) -> bool
         ensures { result ≡ has_none self.now }
@@ -62,14 +62,14 @@ impl ByteLines {
         self.first.is_none() && self.second.is_none()
     }
 
-    /// The group of the lines, 0 to 15.
+    /// Returns the group of the lines, 0 to 15.
     pub fn group(&self) -> U4
         ensures { result ≡ group_of self.now }
     {
         self.group.get()
     }
 
-    // A line in the group.
+    // Returns a line with the group.
     fn listed(&self, line: Option<ByteLine>) -> Option<Listed>
         ensures { result ≡ option_map (line_by (group_of self.now)) line }
     {
@@ -83,14 +83,15 @@ impl ByteLines {
         }
     }
 
-    /// The first line, if there is one: what the byte cut off, or else what it is.
+    /// Returns the first line, if there is one: the line of the message that the byte cut off, or otherwise
+    /// the line of the byte itself.
     pub fn first(&self) -> Option<Listed>
         ensures { result ≡ first_in self.now }
     {
         self.listed(self.first)
     }
 
-    /// The second line, if there is one: what the byte that cut something off is itself.
+    /// Returns the second line, if there is one: the line of the byte itself, if it cut something off.
     pub fn second(&self) -> Option<Listed>
         ensures { result ≡ second_in self.now }
     {

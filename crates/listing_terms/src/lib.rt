@@ -1,5 +1,7 @@
-//! Lines of the listing: their kinds, the two that a byte may have, and what is listed and refused of
-//! exclusives.
+//! Defines the lines of the listing and the reasons why a message is refused.
+//!
+//! Start with [`Listed`], one line of the listing, and [`Kind`], the kinds of lines. [`ByteLines`] has the
+//! lines of one byte, and [`BadStep`] is the reason why a translator refuses a message.
 #![tactic(auto)]
 
 pub mod byte_lines;

@@ -1,4 +1,4 @@
-// Lines of the listing, and why a message is refused.
+// The lines of the listing, and the reasons why a message is refused.
 use small_types::U4;
 use thiserror::Error;
 
@@ -15,7 +15,7 @@ pub enum Kind {
     Data8,
     /// A flex data packet.
     Flex,
-    /// A note with an attribute, which is carried without it.
+    /// A note with an attribute. The note is translated without the attribute.
     NoteAttribute,
     /// A registered or assignable controller of one note.
     NoteController,
@@ -23,27 +23,27 @@ pub enum Kind {
     NoteBend,
     /// Note management.
     NoteManagement,
-    /// A value or change of the null parameter 127/127.
+    /// A value or a change for the null parameter 127/127.
     NullParameter,
     /// A relative change of a parameter.
     RelativeParameter,
-    /// A MIDI 2.0 control change of a bank, data entry or parameter number.
+    /// A MIDI 2.0 control change for a bank, a data entry or a parameter number.
     MisplacedController,
-    /// A MIDI 2.0 control change of the LSB of a controller, if controllers are paired (own rule).
+    /// A MIDI 2.0 control change for the LSB of a controller, if controllers are paired (own rule).
     FineController,
     /// A packet that continues or ends an exclusive when none is open.
     StrayExclusive,
-    /// An exclusive that another one, or a status byte, cut off.
+    /// An exclusive that another exclusive, or a status byte, cut off.
     CutExclusive,
-    /// An exclusive that is open at the end of input.
+    /// An exclusive that is still open at the end of input.
     OpenExclusive,
-    /// A byte that belongs to nothing.
+    /// A byte that belongs to no message.
     Stray,
     /// A status byte that no message has.
     Undefined,
     /// A message that a status byte cut off.
     CutMessage,
-    /// A message that is open at the end of input.
+    /// A message that is still open at the end of input.
     OpenMessage,
     /// A data entry without a selected parameter.
     IgnoredDataEntry,
@@ -52,16 +52,17 @@ pub enum Kind {
 /// A line of the listing.
 #[derive(Clone, Copy, Debug, PartialEq, Eq)]
 pub struct Listed {
-    /// The offset of the line, a number of input bytes: for a cut or open message or exclusive the offset
-    /// of its start, for a data entry that of the byte that completes it.
+    /// The offset of the line, in input bytes. For a message or exclusive that is cut off or open, it is
+    /// the offset of the start. For a data entry, it is the offset of the byte that completes the data
+    /// entry.
     pub offset: u64,
-    /// Its group, if it has one.
+    /// The group of the line, if it has one.
     pub group: Option<U4>,
-    /// What it is.
+    /// The kind of the line.
     pub kind: Kind,
 }
 
-/// Why a translator refuses a message (own rule).
+/// The reason why a translator refuses a message (own rule).
 #[derive(Clone, Copy, Debug, PartialEq, Eq, Error)]
 pub enum BadStep {
     /// A data increment, control change 96.

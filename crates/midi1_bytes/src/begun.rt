@@ -1,26 +1,28 @@
-// What a parser has open, and its running status.
+// The open message of a parser, and its running status.
 
-/// An open message or exclusive, by the data byte that it awaits, with the offset at which it starts: that of
-/// its status byte, or under running status (MIDI 1.0 Detailed Specification) that of its first data byte.
+/// The open message or exclusive, by the data byte that it awaits. `start` is the offset at which it
+/// starts: the offset of its status byte, or under running status that of its first data byte (MIDI 1.0
+/// Detailed Specification).
 #[derive(Clone, Copy, Debug)]
 pub(crate) enum Begun {
     /// Nothing is open.
     Nothing,
-    /// A message of one data byte, which it awaits; its status byte is C0 to DF, F1 or F3.
+    /// A message of one data byte, which it still awaits. Its status byte is C0 to DF, F1 or F3.
     Only { start: u64, status: u8 },
-    /// A message of two data bytes, of which it awaits the first; its
-    /// status byte is 80 to BF, E0 to EF or F2.
+    /// A message of two data bytes, both of which it still awaits. Its status byte is 80 to BF, E0 to EF or
+    /// F2.
     First { start: u64, status: u8 },
-    /// Such a message with its first data byte, 0 to 7F; it awaits the second.
+    /// A message of two data bytes that has the first, 0 to 7F, and awaits the second.
     Second { start: u64, status: u8, first: u8 },
-    /// An exclusive. Its bytes from F0 on are in the parser's buffer.
+    /// An exclusive. The parser's buffer has its bytes, from F0 on.
     Exclusive { start: u64 },
 }
 
-/// The running status (MIDI 1.0 Detailed Specification), by how many data bytes its messages have.
+/// The running status (MIDI 1.0 Detailed Specification), by the number of data bytes that its messages
+/// have.
 #[derive(Clone, Copy, Debug)]
 pub(crate) enum Running {
-    /// There is none.
+    /// There is no running status.
     Unset,
     /// A status byte C0 to DF.
     One(u8),

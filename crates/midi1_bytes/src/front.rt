@@ -1,4 +1,4 @@
-// Voice messages whose bytes stand together, if nothing is open.
+// Voice messages whose bytes follow each other directly, when nothing is open.
 ghost use Rattle.std.specs.Prelude.{ℕ, ◌≡◌, ◌<◌, ◌≤◌, List, ◌∷◌, Option, Some, None, IfSome, MatchOption, length, take};
 ghost use Rattle.midi1_bytes.specs.Messages.{AreData};
 ghost use Rattle.midi1_bytes.specs.Fronts.{IsFront, leading_data, voice_with};
@@ -8,7 +8,7 @@ ghost use Rattle.midi1_bytes.specs.Sorts.{one, two, sort_of, voice_status};
 
 use crate::spoken::VoiceBytes;
 
-// The message with its status byte, and how many of these bytes it has.
+// Returns the message that has its own status byte, and how many of these bytes belong to it.
 #[tactic(auto, unfolding(crate::specs::Sorts::sort_of))]
 #[inline(always)]
 pub(crate) fn with_status(status: u8, first: u8, second: u8) -> Option<(VoiceBytes, usize)>
@@ -41,7 +41,7 @@ pub(crate) fn with_status(status: u8, first: u8, second: u8) -> Option<(VoiceByt
     Some((message, 3))
 }
 
-// The message of two data bytes under running status.
+// Returns the message of two data bytes under running status.
 #[tactic(auto, unfolding(crate::specs::Sorts::sort_of))]
 #[inline(always)]
 pub(crate) fn two_running(status: u8, first: u8, second: u8) -> Option<(VoiceBytes, usize)>
@@ -64,7 +64,7 @@ pub(crate) fn two_running(status: u8, first: u8, second: u8) -> Option<(VoiceByt
     Some((message, 2))
 }
 
-// The message of one data byte under running status.
+// Returns the message of one data byte under running status.
 #[tactic(auto, unfolding(crate::specs::Sorts::sort_of))]
 #[inline(always)]
 pub(crate) fn one_running(status: u8, only: u8) -> (VoiceBytes, usize)
@@ -83,7 +83,7 @@ pub(crate) fn one_running(status: u8, only: u8) -> (VoiceBytes, usize)
     (message, 1)
 }
 
-// How many data bytes these bytes begin with.
+// Returns the number of data bytes at the front of these bytes.
 #[inline(always)]
 pub(crate) fn leading_data(bytes: &[u8]) -> usize
     ensures count { result ≡ leading_data bytes.now }
@@ -99,7 +99,7 @@ pub(crate) fn leading_data(bytes: &[u8]) -> usize
     count
 }
 
-// How many data bytes these bytes begin with, if at most so many count.
+// Returns the number of data bytes at the front of these bytes, counting at most `most`.
 #[tactic(auto, using(crate::proofs::FrontLaws::leading_of_all))]
 #[inline(always)]
 pub(crate) fn leading_data_within(bytes: &[u8], most: usize) -> usize

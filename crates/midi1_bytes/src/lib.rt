@@ -1,4 +1,7 @@
-//! Turns the bytes of a MIDI 1.0 stream into messages, and each message into its bytes.
+//! Parses the bytes of a MIDI 1.0 stream into messages, and writes messages as bytes.
+//!
+//! Start with [`Parser`]: `new` allocates, and `byte` takes one byte and returns a [`Step`].
+//! [`write_voice`] and [`write_system`] return the bytes of a message.
 #![tactic(auto)]
 
 mod begun;

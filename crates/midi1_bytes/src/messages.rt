@@ -1,4 +1,4 @@
-// Messages from their bytes.
+// Makes messages from their bytes.
 ghost use Rattle.std.specs.Prelude.{◌≡◌, ◌<◌, ◌+◌, ◌*◌, [], ◌∷◌};
 ghost use Rattle.midi1_bytes.specs.Messages.{voice_of, real_time_of};
 ghost use Rattle.midi1_bytes.specs.Sorts.{one, two};

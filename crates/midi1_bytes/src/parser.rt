@@ -34,7 +34,7 @@ use std::alloc::Global;
 use std::marker::Model;
 use voice_messages::{END_OF_EXCLUSIVE, START_OF_EXCLUSIVE};
 
-// Adds bytes for which memory is reserved.
+// Appends bytes for which memory has been reserved.
 #[inline]
 fn append_all(bytes: &mut Vec<u8>, more: &[u8])
     requires { vec_len bytes.old + length more.now ≤ vec_capacity bytes.old }
@@ -43,13 +43,13 @@ fn append_all(bytes: &mut Vec<u8>, more: &[u8])
 {
     match bytes.extend_from_slice(more) {
         Ok(()) => {}
-        // Memory is reserved for these bytes, so the call takes none.
+        // Memory for these bytes has been reserved, so the call allocates none and can't fail.
         Err(_) => unreachable!(),
     }
 }
 
-// What a status byte does: if something is open it cuts that off
-// and does `besides`, and else it does `alone`.
+// Returns the step of a status byte: it cuts off the open message and does `besides`, or does `alone` if
+// nothing is open.
 #[inline(always)]
 fn cut_off<'a>(begun: Option<(u64, CutKind)>, besides: AfterCut, alone: Step<'a>) -> Step<'a>
     requires framed { LendsFramed alone }
@@ -68,10 +68,10 @@ fn cut_off<'a>(begun: Option<(u64, CutKind)>, besides: AfterCut, alone: Step<'a>
     }
 }
 
-/// A parser of the bytes of a MIDI 1.0 stream (MIDI 1.0 Detailed Specification: running status, system
-/// exclusive messages). A contract sees the running status, 80 to EF if there is one, what is open with
-/// its start and its bytes, and the limit, `room`: how many bytes an exclusive may have between F0 and F7, 6
-/// to 1,048,576 (own rule).
+/// A parser for the bytes of a MIDI 1.0 stream (MIDI 1.0 Detailed Specification: running status, system
+/// exclusive messages). In contracts its value has the running status, 80 to EF if there is one; the open
+/// message or exclusive, with its start and its bytes; and the limit, `room`. The limit is the number of
+/// bytes that an exclusive may have between F0 and F7, 6 to 1,048,576 (own rule).
 #[derive(Drop)]
 pub struct Parser {
     running: Running,
@@ -120,9 +120,9 @@ impl Parser {
       AreHeld,
     };
 
-    /// A parser with nothing open and no running status. Reserves memory for exclusives of `room` bytes
-    /// between F0 and F7, 6 to 1,048,576 (own rule); no other call takes any. `NoMemory` when there isn't
-    /// that much.
+    /// Creates a parser with nothing open and no running status. Reserves memory for exclusives with `room`
+    /// bytes between F0 and F7, 6 to 1,048,576 (own rule). No other call allocates memory. Returns
+    /// `NoMemory` if the memory can't be allocated.
     pub fn new(alloc: Global, room: u32) -> Result<Parser, NoMemory>
         requires least { 6 ≤ room }
         requires most { room ≤ 1048576 }
@@ -140,17 +140,17 @@ impl Parser {
         })
     }
 
-    /// Drops what is open, and the running status: the parser is as a new one of the same limit (own rule).
-    /// Takes no memory.
+    /// Drops the open message and the running status, so that the parser is like a new one with the same
+    /// limit (own rule). Allocates no memory.
     pub fn reset(&mut self)
         ensures { self.new ≡ idle self.old.room }
     {
         self.leave();
     }
 
-    /// What is open, a message or an exclusive, and the offset at which it starts, as it was given to `byte`:
-    /// that of its status byte, or under running status that of its first data byte. `None` exactly when
-    /// nothing is open (own rule).
+    /// Returns the kind of the open message or exclusive and the offset at which it starts, as given to
+    /// `byte`: the offset of its status byte, or under running status that of its first data byte. `None`
+    /// exactly if nothing is open (own rule).
     #[inline(always)]
     pub fn end(&self) -> Option<(u64, CutKind)>
         ensures { result ≡ option_map (λ begun. (begun.start, begun.kind)) (open_of self.now) }
@@ -163,11 +163,14 @@ impl Parser {
         }
     }
 
-    /// The voice message with which these bytes begin, and how many of them it has: 3, 2, or under running
-    /// status 2 or 1 (MIDI 1.0 Detailed Specification: channel voice messages, running status). `byte` would
-    /// hold each of these bytes and complete this message with the last; `take_front` takes them. `None`
-    /// exactly when something is open, when these bytes don't begin with all bytes of one, one after the
-    /// other, or when they are one of one data byte and no more (own rule): then take the bytes one by one.
+    /// Returns the voice message with which these bytes begin, and how many of them it has: 3 or 2, or
+    /// under running status 2 or 1 (MIDI 1.0 Detailed Specification: channel voice messages, running
+    /// status). `byte` would return `Held` for each of these bytes but the last, and this message for the
+    /// last. `take_front` takes them.
+    ///
+    /// Returns `None` exactly if something is open, if the bytes don't begin with a whole message without a
+    /// gap, or if they are a message of one data byte and nothing more (own rule). Then take the bytes one
+    /// at a time.
     #[inline(always)]
     pub fn front(&self, bytes: &[u8]) -> Option<(VoiceBytes, usize)>
         ensures message { MatchOption result (front_voice self.now bytes.now ≡ None)
@@ -193,8 +196,8 @@ impl Parser {
         with_status(first, second, third)
     }
 
-    /// Takes the bytes of the voice message that `front` has given: the parser is then as after each of them
-    /// by `byte`.
+    /// Takes the bytes of the voice message that `front` has returned. The parser is then as if `byte` had
+    /// taken each of them.
     #[tactic(auto, unfolding(crate::specs::Sorts::sort_of))]
     #[inline(always)]
     pub fn take_front(&mut self, message: &VoiceBytes)
@@ -209,9 +212,9 @@ impl Parser {
         };
     }
 
-    /// Takes the data bytes of the open exclusive with which these bytes begin, as far as its limit goes (own
-    /// rule), and returns how many they are; 0 if no exclusive is open. `byte` would hold each of them,
-    /// and the parser is then as after the last of them by `byte`. Takes no memory.
+    /// Takes the data bytes of the open exclusive at the front of `bytes`, as far as the limit allows (own
+    /// rule), and returns how many they are. Returns 0 if no exclusive is open. `byte` would return `Held`
+    /// for each of them, and the parser is then as if `byte` had taken each of them. Allocates no memory.
     #[inline(always)]
     pub fn take_data(&mut self, bytes: &[u8]) -> usize
         ensures count { result ≡ data_taken self.old bytes.now }
@@ -221,14 +224,14 @@ impl Parser {
         let Begun::Exclusive { .. } = self.begun else {
             return 0;
         };
-        // F0 is in the buffer too.
+        // The buffer also has F0.
         let left = self.room as usize + 1 - self.bytes.len();
         let count = leading_data_within(bytes, left);
         append_all(&mut self.bytes, &bytes[..count]);
         count
     }
 
-    // Ends what is open, and running status.
+    // Ends the open message and the running status.
     #[inline(always)]
     fn leave(&mut self)
         ensures { self.new ≡ idle self.old.room }
@@ -237,7 +240,7 @@ impl Parser {
         self.begun = Begun::Nothing;
     }
 
-    // Begins a voice message, whose status byte is the running status.
+    // Begins a voice message and makes its status byte the running status.
     #[tactic(auto, unfolding(crate::specs::Sorts::sort_of))]
     #[inline(always)]
     fn begin_voice(&mut self, status: u8, start: u64)
@@ -254,7 +257,7 @@ impl Parser {
         }
     }
 
-    // Begins a common message with data bytes, which ends running status.
+    // Begins a common message with data bytes, which ends the running status.
     #[tactic(auto, unfolding(crate::specs::Sorts::sort_of))]
     #[inline(always)]
     fn begin_common(&mut self, status: u8, start: u64)
@@ -280,7 +283,7 @@ impl Parser {
         self.bytes.truncate(1);
     }
 
-    // A data byte of an exclusive.
+    // Takes a data byte of an exclusive.
     #[tactic(auto, using(crate::proofs::DataLaws::more_data))]
     #[inline(always)]
     fn exclusive_data<'a>(&mut self, start: u64, byte: u8) -> Step<'a>
@@ -296,7 +299,7 @@ impl Parser {
               (begun_exclusive start (bytes_begun self.old ++ byte ∷ []));
         } }
     {
-        // F0 is in the buffer too.
+        // The buffer also has F0.
         if self.bytes.len() > self.room as usize {
             self.begun = Begun::Nothing;
             return Step::TooLong;
@@ -344,7 +347,8 @@ impl Parser {
         }
     }
 
-    // A data byte if nothing is open: the first of a message under running status, or stray.
+    // Takes a data byte when nothing is open: the first of a message under running status, or one that
+    // belongs to no message.
     #[tactic(auto, using(crate::proofs::CountLaws::counted_data))]
     #[inline(always)]
     fn data_under_running<'a>(&mut self, byte: u8, offset: u64) -> Step<'a>
@@ -369,7 +373,7 @@ impl Parser {
         }
     }
 
-    // A data byte.
+    // Takes a data byte.
     #[tactic(auto, using(crate::proofs::CountLaws::counted_data))]
     #[inline(always)]
     fn data<'a>(&mut self, byte: u8, offset: u64) -> Step<'a>
@@ -395,7 +399,7 @@ impl Parser {
         }
     }
 
-    // The status byte of a voice message.
+    // Takes the status byte of a voice message.
     #[tactic(auto, using(crate::proofs::OpenLaws::cut_off_open), unfolding(crate::specs::Sorts::sort_of))]
     #[inline(always)]
     fn voice_status<'a>(&mut self, status: u8, offset: u64) -> Step<'a>
@@ -411,7 +415,7 @@ impl Parser {
         cut_off(begun, AfterCut::Begins, Step::Held)
     }
 
-    // A status byte of a system message that is neither F7 nor Real Time.
+    // Takes the status byte of a system message other than F7 and Real Time.
     #[tactic(auto, using(crate::proofs::OpenLaws::cut_off_open), unfolding(crate::specs::Sorts::sort_of))]
     #[inline(always)]
     fn system_status<'a>(&mut self, status: u8, offset: u64) -> Step<'a>
@@ -443,7 +447,7 @@ impl Parser {
         }
     }
 
-    // F7.
+    // Takes F7.
     #[tactic(auto, using(crate::proofs::DataLaws::lent_data))]
     #[inline(always)]
     fn end_exclusive(&mut self) -> Step<'_>
@@ -470,7 +474,7 @@ impl Parser {
         }
     }
 
-    // A data byte if nothing is open, as `plain` has it.
+    // Takes a data byte when nothing is open, for `plain`.
     #[inline(always)]
     fn plain_under_running(&mut self, byte: u8, start: u64) -> PlainStep
         requires begun { self.old.begun ≡ None }
@@ -491,7 +495,7 @@ impl Parser {
         }
     }
 
-    // A data byte of the open exclusive, as `plain` has it.
+    // Takes a data byte of the open exclusive, for `plain`.
     #[tactic(auto, using(crate::proofs::DataLaws::more_data))]
     #[inline(always)]
     fn plain_exclusive(&mut self, start: u64, byte: u8) -> PlainStep
@@ -499,7 +503,7 @@ impl Parser {
         requires below { byte < 128 }
         ensures { IsPlain result (parse_under data_byte self.old 0 byte) self.old self.new }
     {
-        // F0 is in the buffer too.
+        // The buffer also has F0.
         if self.bytes.len() <= self.room as usize {
             self.bytes.push_reserved(byte);
             return PlainStep::Held;
@@ -507,7 +511,7 @@ impl Parser {
         PlainStep::Other
     }
 
-    // A data byte, as `plain` has it.
+    // Takes a data byte, for `plain`.
     #[tactic(auto, using(crate::proofs::PlainLaws::plain_data))]
     #[inline(always)]
     fn plain_data(&mut self, byte: u8, offset: u64) -> PlainStep
@@ -540,7 +544,7 @@ impl Parser {
         }
     }
 
-    // A status byte, as `plain` has it.
+    // Takes a status byte, for `plain`.
     #[tactic(auto, using(crate::proofs::PlainLaws::status_plain), unfolding(crate::specs::Sorts::sort_of))]
     #[inline(always)]
     fn plain_status(&mut self, byte: u8, offset: u64) -> PlainStep
@@ -559,10 +563,13 @@ impl Parser {
         PlainStep::Held
     }
 
-    /// What one more byte does, if it is only held or completes a channel voice message (MIDI 1.0 Detailed
-    /// Specification: summary of status bytes, running status); `Other` exactly if it does anything else. A
-    /// byte that is held is taken, as `byte` takes it. Otherwise nothing changes: `take_voice` takes a byte that
-    /// completes a message, and `byte` any byte. The offset is kept as in `byte`. Takes no memory.
+    /// Returns what one more byte does, if it is only held or if it completes a channel voice message (MIDI
+    /// 1.0 Detailed Specification: summary of status bytes, running status). Returns `Other` exactly if it
+    /// does anything else.
+    ///
+    /// If the result is `Held`, the byte has been taken as `byte` takes it. Otherwise nothing changes: call
+    /// `take_voice` to take a byte that completes a message, or `byte` to take any byte. The offset is
+    /// stored as by `byte`. Allocates no memory.
     #[tactic(auto, unfolding(crate::specs::Sorts::sort_of))]
     #[inline(always)]
     pub fn plain(&mut self, byte: u8, offset: u64) -> PlainStep
@@ -575,8 +582,8 @@ impl Parser {
         }
     }
 
-    /// Takes the byte that completes the message which `plain` has given: the parser is then as after it by
-    /// `byte`.
+    /// Takes the byte that completes the message which `plain` has returned. The parser is then as if
+    /// `byte` had taken that byte.
     #[inline(always)]
     pub fn take_voice(&mut self)
         ensures { self.new ≡ quiet self.old.room self.old.running }
@@ -584,15 +591,16 @@ impl Parser {
         self.begun = Begun::Nothing;
     }
 
-    /// Takes one more byte of the stream, 0 to FF (MIDI 1.0 Detailed Specification: summary of status bytes,
-    /// running status, system messages). The offset, in bytes from the start of the stream, is only kept, and
-    /// given back as the start of what the byte begins; any number will do. The call takes no memory, and no
-    /// byte is an error.
+    /// Takes one more byte of the stream, 0 to FF (MIDI 1.0 Detailed Specification: summary of status
+    /// bytes, running status, system messages). The parser only stores the offset, in bytes from the start
+    /// of the stream, and returns it as the start of the message that the byte begins; any number will do.
+    /// Allocates no memory, and no byte is an error.
     ///
-    /// `Exclusive` lends the exclusive from F0 to F7. `TooLong` is returned exactly at the data byte that
-    /// would make the bytes between F0 and F7 more than the limit; the exclusive is then dropped, and there
-    /// is no running status. What a status byte cuts off is dropped and reported, and a byte that belongs to
-    /// nothing is `Stray` (own rules).
+    /// * `Exclusive` lends the exclusive from F0 to F7.
+    /// * `TooLong` is returned exactly at the data byte that would make the bytes between F0 and F7 more
+    ///   than the limit. The exclusive is then dropped, and there is no running status.
+    /// * A message that a status byte cuts off is dropped and reported, and a byte that belongs to no
+    ///   message is `Stray` (own rules).
     #[tactic(auto, unfolding(crate::specs::Sorts::sort_of))]
     #[inline(always)]
     pub fn byte(&mut self, byte: u8, offset: u64) -> Step<'_>

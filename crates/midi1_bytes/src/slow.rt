@@ -1,5 +1,5 @@
-// A plain, slow program that at each byte looks back over all the
-// bytes before it, to be compared with others.
+// A plain, slow reference program that looks back over all earlier bytes at each byte. Tests compare others
+// with it.
 ghost use Rattle.std.specs.Prelude.{◌≡◌, ◌<◌, ◌≤◌, ◌↔◌, ◌+◌, ◌*◌, length, slice_index, [], ◌∷◌, Some, IsTrue};
 ghost use Rattle.midi1_bytes.specs.Slow.{told};
 ghost use Rattle.midi1_bytes.specs.Sorts.{data_byte, exclusive_end, sort_of, is_data, is_real_time};
@@ -20,27 +20,27 @@ use voice_messages::{System, Voice1};
 /// The effect of one byte in the slow reference program.
 #[derive(Clone, Copy, Debug, PartialEq, Eq)]
 pub enum SlowStep {
-    /// It belongs to what is open or begins.
+    /// The byte belongs to an open message, or begins one.
     Held,
-    /// It completes a voice message.
+    /// The byte completes a voice message.
     Voice(Voice1),
-    /// It completes a system common message.
+    /// The byte completes a system common message.
     Common(System),
-    /// It ends an exclusive of this many bytes between F0 and F7.
+    /// The byte ends an exclusive that has this many bytes between F0 and F7.
     Exclusive(usize),
-    /// It is a Real Time message.
+    /// The byte is a Real Time message.
     RealTime(System),
-    /// It belongs to nothing.
+    /// The byte belongs to no message.
     Stray,
-    /// It is a status that no message has.
+    /// The byte is a status that no message has.
     Undefined,
-    /// It cuts off what is open.
+    /// The byte cuts off an open message.
     Cut {
         start: usize,
         what: CutKind,
         after: AfterCut,
     },
-    /// It exceeds the limit of the exclusive.
+    /// The byte exceeds the limit of the exclusive.
     TooLong,
 }
 
@@ -59,7 +59,7 @@ fn is_data(byte: u8) -> bool
     byte < 0x80
 }
 
-// The last status byte, Real Time left out.
+// Returns the last status byte, apart from Real Time.
 fn last_status(past: &[u8]) -> Option<u8>
     ensures { result ≡ last_status (without_real_time past.now) }
 {
@@ -71,7 +71,7 @@ fn last_status(past: &[u8]) -> Option<u8>
     None
 }
 
-// How many data bytes follow it.
+// Returns the number of data bytes after the last status byte.
 fn data_size(past: &[u8]) -> usize
     ensures { result ≡ length (last_data (without_real_time past.now)) }
 {
@@ -86,7 +86,7 @@ fn data_size(past: &[u8]) -> usize
     size
 }
 
-// The last data byte, or 0.
+// Returns the last data byte, or 0.
 fn previous_data(past: &[u8]) -> u8
     ensures value { result ≡ slice_index (last_data (without_real_time past.now)) 0 }
     ensures below { result < 128 }
@@ -99,7 +99,7 @@ fn previous_data(past: &[u8]) -> u8
     0
 }
 
-// The offset of the byte that is followed by this many bytes other than Real Time.
+// Returns the offset of the byte that this many bytes follow, without Real Time.
 fn offset_before(size: usize, past: &[u8]) -> usize
     ensures { result ≡ offset_before size past.now }
 {
@@ -117,7 +117,7 @@ fn offset_before(size: usize, past: &[u8]) -> usize
     0
 }
 
-// What is open.
+// Returns the kind of the open message.
 #[tactic(auto, unfolding(crate::specs::Sorts::sort_of))]
 fn open_kind(past: &[u8], room: usize) -> Option<CutKind>
     ensures { result ≡ open_in (Some room) past.now }
@@ -140,7 +140,7 @@ fn open_kind(past: &[u8], room: usize) -> Option<CutKind>
     }
 }
 
-// The offset at which it starts.
+// Returns the offset at which the open message starts.
 #[tactic(auto, unfolding(crate::specs::Sorts::sort_of))]
 fn start(past: &[u8]) -> usize
     ensures { result ≡ start_in past.now }
@@ -155,7 +155,7 @@ fn start(past: &[u8]) -> usize
     offset_before(after_start, past)
 }
 
-// A data byte.
+// Returns the effect of a data byte.
 #[tactic(auto, unfolding(crate::specs::Sorts::sort_of))]
 fn data_step(past: &[u8], byte: u8, room: usize) -> SlowStep
     requires { byte < 128 }
@@ -183,7 +183,7 @@ fn data_step(past: &[u8], byte: u8, room: usize) -> SlowStep
     }
 }
 
-// F7.
+// Returns the effect of F7.
 fn end_step(past: &[u8], room: usize) -> SlowStep
     ensures { result ≡ told (step_under (Some room) exclusive_end past.now 0xf7) }
 {
@@ -198,8 +198,8 @@ fn end_step(past: &[u8], room: usize) -> SlowStep
     }
 }
 
-/// What a byte does after the bytes before it, which are given newest
-/// first, if exclusives have at most `room` bytes.
+/// Returns the effect of a byte after the bytes before it. `past` has the earlier bytes, newest first, and
+/// exclusives have at most `room` bytes.
 #[tactic(auto, unfolding(crate::specs::Sorts::sort_of))]
 pub fn slow_step(past: &[u8], byte: u8, room: usize) -> SlowStep
     ensures { result ≡ told (step_of (Some room) past.now byte) }

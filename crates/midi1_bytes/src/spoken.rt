@@ -1,5 +1,5 @@
-// The messages that a parser completes, by their bytes. What is lent holds no type that contracts see as
-// another value, so these stand in for the messages, which they give.
+// The messages that a parser completes, as bytes. A lent value can't contain a type that contracts see as
+// another value, so these types stand in for the messages, and `message` returns them.
 ghost use Rattle.std.specs.Prelude.{◌<◌, ◌≤◌};
 
 use crate::messages::{fourteen_bits, real_time, seven_bits, voice_of_one, voice_of_two};
@@ -13,7 +13,7 @@ pub struct VoiceBytes {
     pub status: u8,
     /// The first data byte, 0 to 127.
     pub first: u8,
-    /// The second data byte, 0 to 127; says nothing in a message of one.
+    /// The second data byte, 0 to 127. It has no meaning in a message of one data byte.
     pub second: u8,
     ghost least: { 128 ≤ status },
     ghost most: { status < 240 },
@@ -21,8 +21,9 @@ pub struct VoiceBytes {
     ghost second_below: { second < 128 },
 }
 
-/// The bytes of a system common message: a status byte F1, F2 or F3 and one or two data bytes, 0 to 7F; any
-/// other status byte stands for F6, a tune request (MIDI 1.0 Detailed Specification, system common messages).
+/// The bytes of a system common message: a status byte F1, F2 or F3 and one or two data bytes, 0 to 7F. Any
+/// other status byte stands for F6, a tune request (MIDI 1.0 Detailed Specification, system common
+/// messages).
 #[derive(Clone, Copy, Debug)]
 pub struct CommonBytes {
     status: u8,
@@ -32,8 +33,8 @@ pub struct CommonBytes {
     ghost second_below: { second < 128 },
 }
 
-/// The status byte of a system Real Time message: F8, FA, FB, FC or FE; any other byte stands for FF, System
-/// Reset (MIDI 1.0 Detailed Specification, system Real Time messages).
+/// The status byte of a system Real Time message: F8, FA, FB, FC or FE. Any other byte stands for FF,
+/// System Reset (MIDI 1.0 Detailed Specification, system Real Time messages).
 #[derive(Clone, Copy, Debug)]
 pub struct RealTimeByte {
     status: u8,
@@ -45,7 +46,7 @@ impl VoiceBytes {
     ghost use Rattle.midi1_bytes.specs.Sorts.{one, two, voice_status, sort_of};
     ghost use Rattle.midi1_bytes.specs.Spoken.{voice_in};
 
-    /// A message of one data byte, Cn or Dn.
+    /// Creates a message of one data byte, Cn or Dn.
     #[tactic(auto, unfolding(crate::specs::Sorts::sort_of))]
     #[inline(always)]
     pub(crate) fn of_one(status: u8, only: u8) -> VoiceBytes
@@ -60,7 +61,7 @@ impl VoiceBytes {
         }
     }
 
-    /// A message of two data bytes, 8n to Bn or En.
+    /// Creates a message of two data bytes, 8n to Bn or En.
     #[tactic(auto, unfolding(crate::specs::Sorts::sort_of))]
     #[inline(always)]
     pub(crate) fn of_two(status: u8, first: u8, second: u8) -> VoiceBytes
@@ -76,8 +77,8 @@ impl VoiceBytes {
         }
     }
 
-    /// The message, with its channel 0 to 15 and its values 0 to 127, or for a bend 0 to 16,383 with the low
-    /// seven bits first (MIDI 1.0 Detailed Specification, channel voice messages).
+    /// Returns the message. Its channel is 0 to 15 and its values are 0 to 127, or for a bend 0 to 16,383
+    /// with the low seven bits first (MIDI 1.0 Detailed Specification, channel voice messages).
     #[tactic(auto, unfolding(crate::specs::Sorts::sort_of))]
     #[inline(always)]
     pub fn message(&self) -> Voice1
@@ -97,7 +98,7 @@ impl CommonBytes {
     ghost use Rattle.midi1_bytes.specs.Spoken.{common_in};
     ghost use Rattle.voice_messages.specs.declared.voice1.System.TheVariants as system;
 
-    /// A system common message with one data byte (F1 or F3).
+    /// Creates a system common message with one data byte (F1 or F3).
     pub(crate) fn of_one(status: u8, only: u8) -> CommonBytes
         requires sort { sort_of status ≡ common_status one }
         requires below { only < 128 }
@@ -110,7 +111,7 @@ impl CommonBytes {
         }
     }
 
-    /// A message of two data bytes, F2.
+    /// Creates a system common message with two data bytes (F2).
     pub(crate) fn of_two(status: u8, first: u8, second: u8) -> CommonBytes
         requires sort { sort_of status ≡ common_status two }
         requires first_below { first < 128 }
@@ -124,7 +125,7 @@ impl CommonBytes {
         }
     }
 
-    /// Tune request.
+    /// Creates a tune request.
     #[tactic(auto, unfolding(crate::specs::Sorts::sort_of))]
     pub(crate) fn tune() -> CommonBytes
         ensures { common_in result ≡ system.Tune }
@@ -136,8 +137,8 @@ impl CommonBytes {
         }
     }
 
-    /// The message, with its value, if it has one, 0 to 127, or for a song position 0 to 16,383 with the
-    /// low seven bits first (MIDI 1.0 Detailed Specification, system common messages).
+    /// Returns the message. Its value, if it has one, is 0 to 127, or for a song position 0 to 16,383 with
+    /// the low seven bits first (MIDI 1.0 Detailed Specification, system common messages).
     #[tactic(auto, unfolding(crate::specs::Sorts::sort_of))]
     #[inline(always)]
     pub fn message(&self) -> System
@@ -164,7 +165,7 @@ impl RealTimeByte {
         RealTimeByte { status }
     }
 
-    /// The message (MIDI 1.0 Detailed Specification, system Real Time messages).
+    /// Returns the message (MIDI 1.0 Detailed Specification, system Real Time messages).
     #[inline(always)]
     pub fn message(&self) -> System
         ensures { result ≡ real_time_in self.now }

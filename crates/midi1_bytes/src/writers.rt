@@ -1,4 +1,4 @@
-// Messages to their bytes.
+// Writes messages as bytes.
 ghost use Rattle.std.specs.Prelude.{◌≡◌, ◌≤◌, ◌+◌, ◌%◌, ◌/◌, [], ◌∷◌};
 ghost use Rattle.midi1_bytes.specs.Messages.{spelled_voice, spelled_system};
 
@@ -32,7 +32,7 @@ fn three_bytes(status: u8, first: U7, second: U7) -> ShortList<u8, 3>
     bytes
 }
 
-// A number of fourteen bits has its low seven bits first.
+// Returns the status byte, then the low seven bits and the high seven bits of the value.
 #[inline(always)]
 fn fourteen_bits(status: u8, value: U14) -> ShortList<u8, 3>
     ensures { result ≡ status ∷ (value % 128) ∷ (value / 128) ∷ [] }
@@ -51,9 +51,9 @@ fn voice_status(first: u8, channel: U4) -> u8
     first + channel.get()
 }
 
-/// The bytes of a channel voice message: its status byte, 80 to EF with the channel in the low four bits, and
-/// its one or two data bytes, 0 to 7F; a bend has its low seven bits first (MIDI 1.0 Detailed Specification,
-/// channel voice messages).
+/// Returns the bytes of a channel voice message: its status byte, 80 to EF with the channel in the low four
+/// bits, and its one or two data bytes, 0 to 7F. A bend has its low seven bits first (MIDI 1.0 Detailed
+/// Specification, channel voice messages).
 #[inline(always)]
 pub fn write_voice(message: &Voice1) -> ShortList<u8, 3>
     ensures { result ≡ spelled_voice message.now }
@@ -85,9 +85,9 @@ pub fn write_voice(message: &Voice1) -> ShortList<u8, 3>
     }
 }
 
-/// The bytes of a system message: its status byte, F1 to F3, F6 or that of a Real Time message, and its data
-/// bytes, 0 to 7F, of which F1 and F3 have one and F2 two, the low seven bits first (MIDI 1.0 Detailed
-/// Specification, system common and system Real Time messages).
+/// Returns the bytes of a system message: its status byte (F1 to F3, F6 or that of a Real Time message) and
+/// its data bytes, 0 to 7F. F1 and F3 have one data byte. F2 has two, with the low seven bits first (MIDI
+/// 1.0 Detailed Specification, system common and system Real Time messages).
 #[inline(always)]
 pub fn write_system(message: &System) -> ShortList<u8, 3>
     ensures { result ≡ spelled_system message.now }

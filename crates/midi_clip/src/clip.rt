@@ -1,4 +1,4 @@
-// A clip, packet by packet.
+// Follows a clip, packet by packet.
 ghost use Rattle.std.specs.Prelude.{◌≡◌, ◌≤◌, ◌<◌, ◌^◌, ℕ, None, Ok, OnErr};
 ghost use Rattle.midi_clip.specs.Roles.{role_of as role_in};
 ghost use Rattle.midi_clip.specs.Stages.{end_of, new_stage, stage_after, step_of, ticks_of};
@@ -8,7 +8,7 @@ use crate::step::{ClipFault, ClipStep, Stage};
 use std::marker::Model;
 use ump_grammar::Packet;
 
-/// A clip, of which some packets have come. To a contract it is its `Stage`.
+/// A clip, with the packets that have come so far. In contracts its value is its `Stage`.
 #[derive(Debug, Drop)]
 pub struct Clip {
     stage: Stage,
@@ -26,7 +26,7 @@ impl Model for Clip {
 }
 
 impl Clip {
-    /// A clip of which no packet has come.
+    /// Creates a clip before its first packet.
     pub fn new() -> Self
         ensures { result ≡ new_stage }
     {
@@ -35,12 +35,14 @@ impl Clip {
         }
     }
 
-    /// Takes one more packet, if at most 2^63 ticks have passed: what
-    /// it is to the clip (own rule). It takes no memory.
+    /// Adds one more packet, if at most 2^63 ticks have passed, and returns what the packet is to the clip
+    /// (own rule). Allocates no memory.
     ///
-    /// `NoResolution` comes for a Start of Clip if the clip has not started and no packet gave the ticks
-    /// for a quarter note, or the last one gave 0. `AfterEnd` comes for each packet after the end of the
-    /// clip. A fault leaves the clip as it was.
+    /// * `NoResolution` is returned for a Start of Clip if the clip has not started, and no packet gave the
+    ///   ticks per quarter note or the last one gave 0.
+    /// * `AfterEnd` is returned for each packet after the end of the clip.
+    ///
+    /// A fault leaves the clip unchanged.
     pub fn packet(&mut self, packet: &Packet) -> Result<ClipStep, ClipFault>
         requires { ticks_of self.old ≤ 2 ^ 63 }
         ensures step { result ≡ step_of self.old (role_in packet.now) }
@@ -56,7 +58,7 @@ impl Clip {
         }
     }
 
-    /// The ticks at which the clip ended, since its start; `NoEnd` if it has not ended.
+    /// Returns the time at which the clip ended, in ticks since its start, or `NoEnd` if it has not ended.
     pub fn end(&self) -> Result<u64, ClipFault>
         ensures { result ≡ end_of self.now }
     {
@@ -66,7 +68,7 @@ impl Clip {
         }
     }
 
-    // A packet before the clip starts.
+    // Handles a packet before the clip starts.
     fn wait(&mut self, resolution: Option<u16>, role: Role) -> Result<ClipStep, ClipFault>
         requires { self.old ≡ Stage.NotStarted resolution }
         ensures step { result ≡ step_of self.old role }
@@ -89,7 +91,7 @@ impl Clip {
         }
     }
 
-    // A packet of the clip, at so many ticks.
+    // Handles a packet within the clip, `ticks` ticks after its start.
     fn go_on(&mut self, ticks: u64, role: Role) -> ClipStep
         requires stage { self.old ≡ Stage.Started ticks }
         requires few { ticks ≤ 2 ^ 63 }

@@ -4,13 +4,13 @@ ghost use Rattle.midi_clip.specs.Header.{TakesHeader};
 
 use outside::{Failed, Source};
 
-/// How many bytes the header of a clip file has (own rule).
+/// The size of a clip file's header, in bytes (own rule).
 pub const HEADER_SIZE: u64 = 8;
 
-/// Takes the first eight bytes that a source has left, or all of them if there are fewer, and no more:
-/// whether they are those of `SMF2CLIP`, with which a clip file begins (own rule).
+/// Takes the first eight bytes from a source, or all of them if there are fewer, and no more. Returns
+/// whether they are the bytes of `SMF2CLIP`, with which a clip file begins (own rule).
 ///
-/// `Failed` comes only if the source's count rose. Then at most seven bytes were taken.
+/// `Failed` is returned only if the source's count of faults rose. Then at most seven bytes were taken.
 pub fn header<S: Source>(source: &mut S) -> Result<bool, Failed>
     ensures bytes { TakesHeader (S.left source.old) (S.left source.new) result }
     ensures cause { HasCause (S.faults source.old) (S.faults source.new) result }

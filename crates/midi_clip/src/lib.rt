@@ -1,4 +1,7 @@
-//! The clip of a clip file: the ticks at which its packets stand.
+//! Follows the clip in a clip file, and returns the time of each packet in ticks.
+//!
+//! Start with [`Clip`]: `packet` returns the [`ClipStep`] of one more packet. [`header`] reads the header
+//! of a file.
 #![tactic(auto)]
 
 pub mod clip;

@@ -1,25 +1,25 @@
-// The packets that a clip is made of.
+// What packets mean to a clip.
 ghost use Rattle.std.specs.Prelude.{◌≡◌};
 ghost use Rattle.midi_clip.specs.Roles.{role_of as role_in};
 
 use ump_grammar::Packet;
 
-/// What a packet says about a clip (M2-104-UM, utility messages, Start of Clip and End of Clip).
+/// The meaning of a packet to a clip (M2-104-UM, utility messages, Start of Clip and End of Clip).
 #[derive(Clone, Copy, Debug, PartialEq, Eq)]
 pub enum Role {
     /// Start of Clip.
     StartOfClip,
     /// End of Clip.
     EndOfClip,
-    /// Delta Clockstamp Ticks Per Quarter Note, with so many.
+    /// Delta Clockstamp Ticks Per Quarter Note, with the number of ticks.
     Resolution(u16),
-    /// Delta Clockstamp, with so many ticks: 0 to 1,048,575 in a decoded packet.
+    /// Delta Clockstamp, with the number of ticks: 0 to 1,048,575 in a decoded packet.
     Delta(u32),
-    /// Anything else.
+    /// Any other packet.
     Other,
 }
 
-/// What a packet says about a clip.
+/// Returns the meaning of a packet to a clip.
 pub fn role_of(packet: &Packet) -> Role
     ensures { result ≡ role_in packet.now }
 {

@@ -1,25 +1,25 @@
-// What a packet is to a clip.
+// The results for the packets of a clip.
 use thiserror::Error;
 
-/// What a packet is to a clip. Ticks are those since the start of the clip.
+/// What a packet is to a clip. Times are in ticks since the start of the clip.
 #[derive(Clone, Copy, Debug, PartialEq, Eq)]
 pub enum ClipStep {
-    /// It comes before the clip starts, and is no part of it.
+    /// The packet comes before the clip starts, and isn't part of the clip.
     Before,
-    /// It starts the clip, which has so many ticks for a quarter note, 1 to 65,535.
+    /// The packet starts the clip, with this number of ticks per quarter note, 1 to 65,535.
     Began(u16),
-    /// It is an event at so many ticks.
+    /// The packet is an event at this time.
     Event(u64),
-    /// It is a Delta Clockstamp: the ticks go on by its value.
+    /// The packet is a Delta Clockstamp, which adds its value to the time.
     Delta,
-    /// It ends the clip at so many ticks.
+    /// The packet ends the clip at this time.
     Ended(u64),
 }
 
-/// Why a packet is no part of a clip, or a clip isn't whole.
+/// The reason why a packet isn't part of a clip, or why a clip is incomplete.
 #[derive(Clone, Copy, Debug, PartialEq, Eq, Error)]
 pub enum ClipFault {
-    /// A clip starts, and no packet before it gives the ticks for a quarter note, or the last one gives 0.
+    /// A clip starts, but no packet before it gives the ticks per quarter note, or the last one gives 0.
     #[error("the clip starts without a number of ticks for a quarter note")]
     NoResolution,
     /// A packet comes after the end of the clip.
@@ -30,14 +30,14 @@ pub enum ClipFault {
     NoEnd,
 }
 
-/// How far a clip is.
+/// The progress of a clip.
 #[derive(Clone, Copy, Debug, PartialEq, Eq)]
 pub enum Stage {
-    /// It has not started. The last packet that gave the ticks for a quarter note gave so many; none if
-    /// there was none, or it gave 0.
+    /// The clip has not started. `resolution` is the number of ticks per quarter note in the last packet
+    /// that gave one, or `None` if no packet did or if the number was 0.
     NotStarted { resolution: Option<u16> },
-    /// It started, so many ticks ago.
+    /// The clip started this many ticks ago.
     Started { ticks: u64 },
-    /// It ended, so many ticks after its start.
+    /// The clip ended this many ticks after its start.
     Ended { ticks: u64 },
 }

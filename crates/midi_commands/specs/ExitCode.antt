@@ -1,5 +1,5 @@
--- The exit code for each status.
-use Rattle.std.specs.Prelude.{ℕ}
+-- The exit code for each status, and which of them are faults.
+use Rattle.std.specs.Prelude.{ℕ, Bool, true, false}
 use Rattle.midi_commands.specs.declared.status.Status.{Status}
 use Rattle.midi_commands.specs.declared.status.Status.TheVariants.{Done, Refused, ReadFault, LaneFault, OutputFault, NoteFault}
 use Rattle.midi_commands.specs.declared.status.Status.TheVariants.{ShelfFault, Usage, SetupSyntax, SetupField, NoMemory}
@@ -16,3 +16,12 @@ exit_code_of Usage = 7
 exit_code_of SetupSyntax = 8
 exit_code_of (SetupField rule) = 9
 exit_code_of NoMemory = 10
+
+-- a read or a write failed
+abbrev pub is_fault : Status → Bool
+is_fault ReadFault = true
+is_fault LaneFault = true
+is_fault OutputFault = true
+is_fault NoteFault = true
+is_fault ShelfFault = true
+is_fault _ = false

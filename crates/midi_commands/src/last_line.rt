@@ -12,7 +12,7 @@ use outside::{Lanes, Sink};
 use pass_loop::places::put_notes;
 use pass_loop::{Reason, RunEnd};
 
-// The name of a reason.
+// Returns the name of a reason.
 fn reason_text(reason: Reason) -> &'static str
     ensures text { result.now ≡ text_for reason }
     ensures size { length result.now ≤ 16 }
@@ -34,7 +34,7 @@ fn reason_text(reason: Reason) -> &'static str
     }
 }
 
-// The line of a refusal.
+// Returns the line for a refusal.
 fn refusal_line(reason: Reason, offset: u64) -> Line
     ensures text { result
         ≡ codes "refused " ++ text_for reason ++ codes " at " ++ decimal offset ++ codes "\n" }
@@ -48,7 +48,7 @@ fn refusal_line(reason: Reason, offset: u64) -> Line
     line
 }
 
-// The line of the first rule that a setup breaks.
+// Returns the line for the first rule that a setup breaks.
 fn rule_line(rule: u8) -> Line
     ensures text { result ≡ codes "setup field " ++ decimal rule ++ codes "\n" }
 {
@@ -59,7 +59,7 @@ fn rule_line(rule: u8) -> Line
     line
 }
 
-// A line of this text.
+// Returns a line with this text.
 fn line_of(text: &str) -> Line
     requires { length text.now ≤ 60 }
     ensures { result ≡ text.now ++ codes "\n" }
@@ -70,7 +70,7 @@ fn line_of(text: &str) -> Line
     line
 }
 
-/// The last line for a status, or none for `Done` and `NoteFault`.
+/// Returns the last line for a status, or `None` for `Done` and `NoteFault`.
 pub fn last_line(status: Status) -> Option<Line>
     ensures text { result ≡ last_line_text status }
     ensures some { IfSome result (λ line. 0 < length line) }
@@ -89,7 +89,7 @@ pub fn last_line(status: Status) -> Option<Line>
     }
 }
 
-// Puts a line in the notes, if there is one.
+// Writes a line to the notes, if there is one.
 fn put_line<L: Lanes, W: Sink, N: Sink>(
     line: Option<Line>,
     lanes: &mut L,
@@ -107,7 +107,7 @@ fn put_line<L: Lanes, W: Sink, N: Sink>(
     }
 }
 
-/// Puts the last line for a status in the notes, if it has one. If that fails, the notes may have gained a
+/// Writes the last line for a status to the notes, if it has one. If that fails, the notes may have gained a
 /// front of the line, and their count of faults has risen.
 pub fn put_last<L: Lanes, W: Sink, N: Sink>(
     status: Status,

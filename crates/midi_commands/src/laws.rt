@@ -1,4 +1,4 @@
-// What holds of all runs.
+// Laws that hold for all runs.
 ghost use Rattle.midi_commands.specs.WholeInput.{DoneLeavesTheWhole};
 
 use clip_pass::laws::a_clip_that_is_done_is_that_of_the_input;
@@ -16,10 +16,11 @@ use usb_passes::laws::{
     a_packing_that_is_done_is_that_of_the_input, a_split_that_is_done_is_that_of_the_input,
 };
 
-/// When a command is done and its input shows its bytes, what it put is exactly what its definitions give
-/// for all of them: the translation of all packets or bytes and the lines of their listing, the lines that
-/// are shown, the replies to a peer, what is split, packed or joined, a rehearsal, or a clip; and for a
-/// self test its line. `says` of `run` says that all else stays as it was.
+/// When a command is done and contracts see the bytes of its input, it has written exactly what its
+/// definitions give for all these bytes: the translation of all packets or bytes and the lines of the
+/// listing, the lines that are shown, the replies to a peer, the bytes that are split, packed or joined, a
+/// rehearsal, or a clip. A self test has written its line. The clause `says` of `run` says that everything
+/// else is unchanged.
 pub fn a_command_that_is_done_leaves_the_whole()
     ensures { DoneLeavesTheWhole }
 {

@@ -1,5 +1,7 @@
-//! The commands of the program, over the objects of the outside: `run` does what the words of a command line
-//! ask for, and `finish` writes out what was gathered and gives the exit code.
+//! Runs the commands of the program with the objects that it is handed.
+//!
+//! Start with [`run`], which does what the arguments of a command line ask for and returns a [`Status`].
+//! Afterwards [`finish`] writes out what is still buffered and returns the exit code.
 #![tactic(auto)]
 
 mod commands;

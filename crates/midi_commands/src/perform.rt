@@ -1,4 +1,4 @@
-// What each command does.
+// Carries out each command.
 ghost use Rattle.std.specs.Prelude.{◌≡◌, None};
 ghost use Rattle.command_line.specs.Asked.{asked_of};
 ghost use Rattle.command_line.specs.Rules.{IsInRange};
@@ -24,7 +24,7 @@ use sysex8_pass::{Sysex8Run, run_sysex8};
 use translation_passes::{BackRun, DownRun, UpRun, run_back, run_down, run_up};
 use usb_passes::{PackRun, run_pack, run_split};
 
-// The style of the lanes.
+// Returns the style in which the lanes are written.
 fn style_of(style: LaneStyle) -> Style
     ensures { result ≡ style_in style }
 {
@@ -34,8 +34,9 @@ fn style_of(style: LaneStyle) -> Style
     }
 }
 
-/// Does what a command asks for. Returns the end of its pass, or the status if the pass has none, because the
-/// setup, the folder or memory can't be had. The lanes are opened after all memory is there.
+/// Carries out a command. Returns the end of its pass. If the pass can't start, because the setup or the
+/// folder can't be opened or there is no memory, returns the status instead. The lanes are opened after all
+/// memory is allocated.
 #[tactic(auto, using(crate::proofs::LineLaws::output_failed))]
 pub fn perform<S: Source, L: Lanes, W: Sink, N: Sink, K: Shelf>(
     alloc: Global,

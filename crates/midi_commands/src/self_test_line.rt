@@ -5,7 +5,7 @@ ghost use Rattle.midi_commands.specs.SelfTest.{counts_text};
 use midi_lines::{Line, put_decimal, put_text};
 use self_test::Counts;
 
-/// The line of these counts, of so many packets of a seed.
+/// Returns the line for these counts of the first `packets` packets of a seed.
 pub fn self_test_line(seed: u32, packets: u32, counts: &Counts) -> Line
     ensures text { result ≡ counts_text seed packets counts.now }
     ensures some { 0 < length result }

@@ -1,4 +1,4 @@
-// The setup of a name.
+// Finds the setup of a name.
 ghost use Rattle.std.specs.Prelude.{◌≡◌, None, OnOk, Some};
 ghost use Rattle.outside.specs.Outside.{Fetches, HasOpenCause, kept_bytes};
 ghost use Rattle.midi_commands.specs.Run.{FindsSetup, shelf_seen};
@@ -8,11 +8,11 @@ use function_blocks::{MOST_BYTES, Setup, SetupFault};
 use outside::{OpenFault, Shelf};
 use std::alloc::Global;
 
-// The most bytes that are read of a setup: one more than a setup may
-// have, so that a longer one is seen to be so.
+// The most bytes of a setup that are read: one more than a setup may have, so that a longer text is detected.
 const SETUP_LIMIT: usize = MOST_BYTES + 1;
 
-// Fetches the text of a setup by its name, and of a longer one no more than its first 65,537 bytes.
+// Reads the text of a setup by its name. If the text is longer than 65,537 bytes, only these first bytes are
+// read.
 fn fetch_setup<K: Shelf>(name: &str, shelf: &mut K, text: &mut Vec<u8>) -> Result<(), OpenFault>
     requires asked { K.asked shelf.old ≡ None }
     ensures asked { K.asked shelf.new ≡ Some (kept_bytes name.now) }
@@ -23,7 +23,7 @@ fn fetch_setup<K: Shelf>(name: &str, shelf: &mut K, text: &mut Vec<u8>) -> Resul
     shelf.fetch(name, SETUP_LIMIT, text)
 }
 
-/// The setup of the text that the shelf has by a name, or the status if there is none.
+/// Returns the setup of the text that the shelf has under a name, or the status if there is none.
 pub fn setup_named<K: Shelf>(alloc: Global, name: &str, shelf: &mut K) -> Result<Setup, Status>
     requires asked { K.asked shelf.old ≡ None }
     ensures { FindsSetup name.now (shelf_seen K.Shelf shelf.old) (shelf_seen K.Shelf shelf.new) result }

@@ -1,5 +1,6 @@
-//! The tests of the commands: worked rows of each, on the public call `run`, what comes after a run, the
-//! words of `command_line`, and what is called directly of `clip_pass`, `midi_clip` and `usb_passes`.
+//! The tests of the commands that rows alone can't make: each read and each write fails in turn, what comes
+//! after a run, and what is called directly of `clip_pass`, `midi_clip` and `usb_passes`. The rows of
+//! `worked_rows` tell of the rest.
 #![tactic(auto)]
 
 #[cfg(test)]

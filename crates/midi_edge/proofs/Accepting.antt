@@ -1,5 +1,5 @@
 -- What sinks have accepted: a fault that is counted leaves it unchanged, and what one sink keeps is kept of all.
-use Rattle.std.proofs.Common.{◌≡◌, ℕ, zero, suc, List, [], ◌∷◌, Option, None, Some, refl, ◌∙◌, slice_index_or, slice_set}
+use Rattle.std.proofs.Common.{◌≡◌, ℕ, zero, suc, List, [], ◌∷◌, Option, None, Some, refl, sym, subst, ◌∙◌, slice_index_or, slice_set}
 use Rattle.std.specs.Prelude.{Result, Ok, Err, IsErr, MatchResult}
 use Rattle.std.specs.Io.KnownBytes.{Keeps}
 use Rattle.midi_edge.specs.Adapters.{Accepts, KeepsEach, accepted}
@@ -37,3 +37,17 @@ module _ {W : Type 0} (contents : W → Option (List ℕ)) where
       (Keeps-trans (accepted contents old) (accepted contents now) (accepted contents after) each.0 keeps, each.1)
   KeepsEach-set (old ∷ olds) (now ∷ nows) (suc i) default after each keeps =
       (each.0, KeepsEach-set olds nows i default after each.1 keeps)
+
+  pub keeps_each_twice : (a b c : List (WriteSink W)) → KeepsEach contents a b → KeepsEach contents b c → KeepsEach contents a c
+  keeps_each_twice [] [] [] p q = tt
+  keeps_each_twice [] [] (z ∷ zs) p q = absurd q
+  keeps_each_twice [] (y ∷ ys) c p q = absurd p
+  keeps_each_twice (x ∷ xs) [] c p q = absurd p
+  keeps_each_twice (x ∷ xs) (y ∷ ys) [] p q = absurd q
+  keeps_each_twice (x ∷ xs) (y ∷ ys) (z ∷ zs) p q =
+      (Keeps-trans (accepted contents x) (accepted contents y) (accepted contents z) p.0 q.0, keeps_each_twice xs ys zs p.1 q.1)
+
+  -- a sink that may gather no more keeps what it has accepted
+  pub kept_without_room : (old new : WriteSink W) → new ≡ record old { room = new.room } → Keeps (accepted contents old) (accepted contents new)
+  kept_without_room old new same =
+      subst (λ s. Keeps (accepted contents old) (accepted contents s)) (sym same) (Keeps-refl (accepted contents old))

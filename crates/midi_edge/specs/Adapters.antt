@@ -1,5 +1,5 @@
 -- What a clause reads of the adapters.
-use Rattle.std.specs.Prelude.{◌≡◌, ◌⊎◌, ◌<◌, ◌&&◌, ◌==◌, Bool, not, ℕ, List, [], All, length}
+use Rattle.std.specs.Prelude.{◌≡◌, ◌⊎◌, ◌<◌, ◌&&◌, ◌==◌, Bool, true, not, ℕ, List, [], All, length}
 use Rattle.std.specs.Prelude.{take, Option, Result, MatchResult, Some, slice_get, slice_set}
 use Rattle.std.specs.List.{AllZip}
 use Rattle.std.specs.Io.Buffered.{reader_buffer, reader_remaining}
@@ -30,6 +30,10 @@ is_waiting s = not (never_waits s) && length (reader_buffer s.reader) == 0
 abbrev pub unwritten : {W : Type 0} → WriteSink W → List ℕ
 unwritten s = s.gathered
 
+-- `write_out` of a sink has failed
+abbrev pub has_failed_early : {W : Type 0} → WriteSink W → Bool
+has_failed_early s = s.room.bytes == 0
+
 -- the bytes that the writer of a sink holds, if it tells them, and then those not yet written out
 abbrev pub accepted : {W : Type 0} → (W → Option (List ℕ)) → WriteSink W → Option (List ℕ)
 accepted contents s = append_known (contents s.writer) (unwritten s)
@@ -58,6 +62,14 @@ TriesLanes old new = TriesEach old.lanes.items new.lanes.items
 -- no lane holds bytes that are not yet written out
 abbrev pub IsWrittenOut : {R F A : Type 0} → FolderLanes R F A → Type 0
 IsWrittenOut l = All (λ s. unwritten s ≡ []) l.lanes.items
+
+-- `write_out` of lanes has failed, at one lane or more
+abbrev pub lanes_failed_early : {R F A : Type 0} → FolderLanes R F A → Bool
+lanes_failed_early l = l.has_failed_early
+
+-- the same, and it counts as failed at every lane
+abbrev pub HasFailedEarly : {R F A : Type 0} → FolderLanes R F A → Type 0
+HasFailedEarly l = (lanes_failed_early l ≡ true) × All (λ s. has_failed_early s ≡ true) l.lanes.items
 
 -- one lane accepts the piece, or at `Err` a front of it that isn't all of it, and the others are unchanged
 abbrev pub AcceptsInLane : {R F A T E : Type 0} → (F → Option (List ℕ)) → FolderLanes R F A → FolderLanes R F A → ℕ × List ℕ → Result T E

@@ -1,4 +1,5 @@
-// The objects of the outside over real readers, writers, folders and files. They show no content.
+// Adapters that make readers, writers, folders and files into the objects of `outside`. They show no
+// content.
 ghost use Rattle.std.specs.Prelude.{◌≡◌, ◌≢◌, ◌≤◌, Ok, IsErr, MatchResult};
 ghost use Rattle.std.specs.IoError.{error_kind};
 ghost use Rattle.outside.specs.Outside.{HasCause, HasOpenCause, Rose};
@@ -7,6 +8,7 @@ mod buffered_source;
 mod file_shelf;
 mod folder_lanes;
 mod read_source;
+mod room;
 mod write_sink;
 
 pub use crate::adapters::buffered_source::BufferedSource;
@@ -17,10 +19,10 @@ pub use crate::adapters::write_sink::WriteSink;
 use outside::{Failed, OpenFault};
 use std::io::{self, ErrorKind};
 
-// How many bytes are gathered in a buffer.
+// The capacity of an output buffer, in bytes.
 const CAPACITY: usize = 8192;
 
-// The count stops at the last `u64`.
+// Adds a fault to the count, which saturates at `u64::MAX`.
 fn count_fault(faults: &mut u64)
     ensures later { faults.old ≤ faults.new }
     ensures rose { Rose faults.old faults.new }
@@ -28,7 +30,7 @@ fn count_fault(faults: &mut u64)
     *faults = faults.saturating_add(1);
 }
 
-// The answer of a call, whose fault is counted.
+// Turns the result of a call into that of an object, and counts a fault if the call failed.
 fn counted<T, E: Drop>(answer: Result<T, E>, faults: &mut u64) -> Result<T, Failed>
     ensures value { MatchResult result (λ x. answer ≡ Ok x) (λ _. IsErr answer) }
     ensures cause { HasCause faults.old faults.new result }
@@ -42,7 +44,7 @@ fn counted<T, E: Drop>(answer: Result<T, E>, faults: &mut u64) -> Result<T, Fail
     }
 }
 
-// The answer of an opening, which is counted as a fault if it failed, and not for want of memory.
+// Returns the result of an opening, and counts a fault if it failed for a reason other than out of memory.
 fn counted_opening<T>(answer: Result<T, OpenFault>, faults: &mut u64) -> Result<T, OpenFault>
     ensures answer { result ≡ answer }
     ensures cause { HasOpenCause faults.old faults.new result }
@@ -53,7 +55,7 @@ fn counted_opening<T>(answer: Result<T, OpenFault>, faults: &mut u64) -> Result<
     answer
 }
 
-// Why a file was not opened, created or read.
+// Returns why a file couldn't be opened, created or read.
 fn fault_of(error: io::Error) -> OpenFault
     ensures memory { error_kind error ≡ ErrorKind.OutOfMemory → result ≡ OpenFault.NoMemory }
     ensures other { error_kind error ≢ ErrorKind.OutOfMemory → result ≡ OpenFault.Failed }

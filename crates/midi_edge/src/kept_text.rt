@@ -1,4 +1,4 @@
-// The first bytes of a text, kept without taking memory.
+// The first bytes of a text, stored without heap memory.
 ghost use Rattle.std.specs.Prelude.{◌≡◌, None, Some};
 ghost use Rattle.outside.specs.Outside.{kept_bytes};
 
@@ -6,7 +6,7 @@ use std::marker::Model;
 
 const MOST: usize = 4096;
 
-/// The first 4,096 bytes of a text, or nothing. To a contract it is these bytes.
+/// The first 4,096 bytes of a text, or nothing. In contracts its value is these bytes, if there are any.
 #[derive(Drop)]
 pub struct KeptText {
     is_set: bool,
@@ -26,7 +26,7 @@ impl Model for KeptText {
 }
 
 impl KeptText {
-    /// Nothing is kept.
+    /// Creates a `KeptText` that stores nothing.
     pub fn new() -> Self
         ensures { result ≡ None }
     {

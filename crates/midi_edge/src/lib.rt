@@ -1,5 +1,8 @@
-//! The outside in memory and over the real things: forms of its objects that a test holds, and adapters over
-//! readers, writers, folders and files. It offers the objects and the small types again.
+//! Implements the objects of `outside`: in memory, for tests, and as adapters over readers, writers,
+//! folders and files. It also re-exports `outside` and `small_types`.
+//!
+//! Start with [`BufferedSource`] and [`WriteSink`] to read and write streams, or with [`MemSource`] and
+//! [`MemSink`] in a test.
 #![tactic(auto)]
 
 pub mod adapters;

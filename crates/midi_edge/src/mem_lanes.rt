@@ -18,8 +18,8 @@ struct Entry {
     end: usize,
 }
 
-/// Lanes with room for so many bytes and pieces, which fail at these puts and keep so many bytes then. To a
-/// contract they are their `LanesState`.
+/// Lanes with a fixed capacity for bytes and pieces. They fail at the puts that you list, and then keep as
+/// many bytes as you list. In contracts their value is their `LanesState`.
 #[derive(Drop)]
 pub struct MemLanes {
     bytes: Vec<u8>,
@@ -58,10 +58,13 @@ impl Model for MemLanes {
 }
 
 impl MemLanes {
-    /// Lanes that hold nothing, with room for `room` bytes in at most `entries` pieces. `begin` never fails.
-    /// Put number k, counted from 0, fails exactly if `fails` contains k, and keeps so many bytes of the
-    /// piece, at most its length less one and at most what fits, or if a room would be passed, and keeps
-    /// none. The numbers stop at the last `u64`. `NoMemory` if the room can't be had.
+    /// Creates empty lanes with a capacity of `room` bytes in at most `entries` pieces. `begin` never
+    /// fails.
+    ///
+    /// Puts are counted from 0, up to `u64::MAX`. Put number k fails exactly if `fails` contains k or if a
+    /// capacity would be exceeded. If `fails` contains k, the put keeps as many bytes of the piece as
+    /// `fails` says, but at most all but one, and at most as many as fit. A put that fails only for a
+    /// capacity keeps none. Returns `NoMemory` if the capacity can't be allocated.
     pub fn new(
         alloc: Global,
         room: usize,
@@ -100,7 +103,7 @@ impl MemLanes {
         })
     }
 
-    /// The lane and the bytes of piece number `k`, counted from 0; `None` past the last.
+    /// Returns the lane and the bytes of piece number `k`, counted from 0, or `None` past the last piece.
     pub fn entry(&self, k: usize) -> Option<(U4, &[u8])>
         ensures { MatchOption result (length self.now.pieces ≤ k)
             (λ e. slice_get self.now.pieces k ≡ Some (e.0, e.1.now)) }
@@ -110,7 +113,7 @@ impl MemLanes {
     }
 }
 
-// Adds a piece, if there is room for it.
+// Appends a piece, for which there must be room.
 fn add(bytes: &mut Vec<u8>, entries: &mut Vec<Entry>, lane: U4, piece: &[u8])
     requires parts { AreWithin (vec_len bytes.old) entries.old.items }
     requires room { vec_len bytes.old + length piece.now ≤ vec_capacity bytes.old }

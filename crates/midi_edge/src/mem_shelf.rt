@@ -7,7 +7,7 @@ use crate::kept_text::KeptText;
 use outside::{OpenFault, Shelf};
 use std::marker::Model;
 
-// The first text of a name.
+// Returns the first text with this name, or `None`.
 fn text_named<'a>(texts: &'a [(String, Vec<u8>)], name: &str) -> Option<&'a [u8]>
     ensures { option_copied result ≡ first_named texts.now name.now }
 {
@@ -17,7 +17,7 @@ fn text_named<'a>(texts: &'a [(String, Vec<u8>)], name: &str) -> Option<&'a [u8]
         .map(|text| text.1.as_slice())
 }
 
-// Adds the first bytes of a text, at most this many.
+// Appends the first bytes of a text, at most `limit`.
 fn add_front(into: &mut Vec<u8>, text: &[u8], limit: usize) -> Result<(), OpenFault>
     ensures ok { OnOk result (into.new.items ≡ into.old.items ++ take limit text.now) }
     ensures err { OnErr result ((more : List ℕ) × (into.new.items ≡ into.old.items ++ more)) }
@@ -30,7 +30,8 @@ fn add_front(into: &mut Vec<u8>, text: &[u8], limit: usize) -> Result<(), OpenFa
     }
 }
 
-/// A shelf of named texts, which fails at these calls. To a contract it is its `ShelfState`.
+/// A shelf of named texts that fails at the calls that you list. In contracts its value is its
+/// `ShelfState`.
 #[derive(Drop)]
 pub struct MemShelf {
     texts: Vec<(String, Vec<u8>)>,
@@ -55,8 +56,9 @@ impl Model for MemShelf {
 }
 
 impl MemShelf {
-    /// A shelf of these texts, of which the first of a name counts. Call number k, counted from 0, fails
-    /// exactly if `fails` contains k or if no text has the name; the numbers stop at the last `u64`.
+    /// Creates a shelf of these texts. If several have the same name, the first one counts. Calls are
+    /// counted from 0, up to `u64::MAX`: call number k fails exactly if `fails` contains k or if no text
+    /// has the name.
     pub fn new(texts: Vec<(String, Vec<u8>)>, fails: Vec<u64>) -> MemShelf
         ensures { result ≡ record {
           asked = None;
@@ -75,7 +77,7 @@ impl MemShelf {
         }
     }
 
-    /// How often it has failed, up to the last `u64`.
+    /// Returns the number of failed calls, saturating at `u64::MAX`.
     pub fn faults(&self) -> u64
         ensures { result ≡ self.now.faults }
     {

@@ -9,8 +9,8 @@ use small_types::NoMemory;
 use std::alloc::Global;
 use std::marker::Model;
 
-/// A sink with room for so many bytes, which fails at these calls and keeps so many bytes then. To a contract
-/// it is its `SinkState`.
+/// A sink with a fixed capacity. It fails at the calls that you list, and then keeps as many bytes as you
+/// list. In contracts its value is its `SinkState`.
 #[derive(Drop)]
 pub struct MemSink {
     bytes: Vec<u8>,
@@ -38,10 +38,12 @@ impl Model for MemSink {
 }
 
 impl MemSink {
-    /// A sink that holds nothing and has room for `room` bytes. Call number k, counted from 0, fails exactly
-    /// if `fails` contains k, and keeps so many bytes of the piece, at most its length less one and at
-    /// most what fits, or if the bytes would pass the room, and keeps none. The numbers stop at the last
-    /// `u64`. `NoMemory` if the room can't be had.
+    /// Creates an empty sink with a capacity of `room` bytes.
+    ///
+    /// Calls are counted from 0, up to `u64::MAX`. Call number k fails exactly if `fails` contains k or if
+    /// the capacity would be exceeded. If `fails` contains k, the call keeps as many bytes of the piece as
+    /// `fails` says, but at most all but one, and at most as many as fit. A call that fails only for the
+    /// capacity keeps none. Returns `NoMemory` if the capacity can't be allocated.
     pub fn new(alloc: Global, room: usize, fails: Vec<(u64, usize)>) -> Result<MemSink, NoMemory>
         ensures { IfOk result
             (λ sink. sink ≡ record { held = []; room = room; fails = fails.items; calls = 0; faults = 0 }) }
@@ -58,7 +60,7 @@ impl MemSink {
         })
     }
 
-    /// The bytes that were put.
+    /// Returns the bytes that the sink contains.
     pub fn held(&self) -> &[u8]
         ensures { result.now ≡ self.now.held }
     {

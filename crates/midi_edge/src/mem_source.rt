@@ -7,7 +7,7 @@ ghost use Rattle.midi_edge.specs.MemSource.{after_take};
 use outside::{Failed, Source};
 use std::marker::Model;
 
-// Copies a front of what is left, at most this many bytes, and says how many.
+// Copies a prefix of the remaining bytes, at most `most`, and returns how many it copied.
 fn fill(buf: &mut [u8], left: &[u8], most: usize) -> usize
     requires room { 0 < length buf.old }
     requires most { 0 < most }
@@ -21,8 +21,8 @@ fn fill(buf: &mut [u8], left: &[u8], most: usize) -> usize
     count
 }
 
-/// A source that gives these bytes, in pieces of these sizes, and fails at these calls. To a contract it is
-/// its `SourceState`.
+/// A source that returns these bytes in pieces of the sizes that you list, and fails at the calls that you
+/// list. In contracts its value is its `SourceState`.
 #[derive(Drop)]
 pub struct MemSource {
     bytes: Vec<u8>,
@@ -53,9 +53,9 @@ impl Model for MemSource {
 }
 
 impl MemSource {
-    /// A source of these bytes. The successful call number j, counted from 0, gives at most `cuts[j]` bytes,
-    /// with 0 for 1, and past the list any number. Call number k fails exactly if k is in
-    /// `fails`; the numbers stop at the last `u64`.
+    /// Creates a source of these bytes. Successful call number j, counted from 0, returns at most `cuts[j]`
+    /// bytes, where 0 counts as 1. Past the end of `cuts` a call returns any number. Calls are counted from
+    /// 0, up to `u64::MAX`: call number k fails exactly if `fails` contains k.
     pub fn new(bytes: Vec<u8>, cuts: Vec<usize>, fails: Vec<u64>) -> MemSource
         ensures { result ≡ record {
           left = bytes.items;
@@ -104,7 +104,7 @@ impl Source for MemSource {
     }
 }
 
-/// A source that gives these bytes and never fails. To a contract it is the bytes that it has left.
+/// A source that returns these bytes and never fails. In contracts its value is the remaining bytes.
 #[derive(Drop)]
 pub struct PlainSource {
     bytes: Vec<u8>,
@@ -122,7 +122,7 @@ impl Model for PlainSource {
 }
 
 impl PlainSource {
-    /// A source of these bytes.
+    /// Creates a source of these bytes.
     pub fn new(bytes: Vec<u8>) -> PlainSource
         ensures { result ≡ bytes.items }
     {

@@ -1,8 +1,8 @@
-// Which calls of an object in memory are to fail.
+// The calls at which an object in memory is to fail.
 ghost use Rattle.std.specs.Prelude.{◌≡◌};
 ghost use Rattle.midi_edge.specs.Script.{kept_at as kept_at_call};
 
-/// How many bytes the call keeps, if it is listed to fail.
+/// Returns how many bytes the call keeps if it is listed to fail, or `None` if it isn't listed.
 pub(crate) fn kept_at(fails: &[(u64, usize)], call: u64) -> Option<usize>
     ensures { result ≡ kept_at_call fails.now call }
 {

@@ -8,8 +8,8 @@ use text_lines::{Line, kind_name, put_decimal, put_number, put_text};
 use voice_messages::{Bank, Param, ParamKind, U4, U7};
 use voice_state::{Fact, FactAddress};
 
-/// The line of a fact: `state`, the group, the channel, the name of the fact, and its numbers in decimal
-/// digits (own rule).
+/// Returns the line for a fact: `state`, the group, the channel, the name of the fact, and the numbers of the
+/// fact in decimal digits (own rule).
 pub fn fact_line(fact: &Fact) -> Line
     ensures text { result ≡ fact_text fact.now }
     ensures some { 0 < length result }
@@ -19,7 +19,7 @@ pub fn fact_line(fact: &Fact) -> Line
     line
 }
 
-/// Overwrites the line with that of a fact, as `fact_line` writes it (own rule).
+/// Overwrites the line with the line for a fact, as `fact_line` returns it (own rule).
 pub fn fill_fact_line(line: &mut Line, fact: &Fact)
     ensures text { line.new ≡ fact_text fact.now }
     ensures some { 0 < length line.new }
@@ -29,7 +29,7 @@ pub fn fill_fact_line(line: &mut Line, fact: &Fact)
     put_text(line, "\n");
 }
 
-// The words of a fact.
+// Adds the words of a fact.
 fn put_fact(line: &mut Line, fact: &Fact)
     requires { length line.old ≤ before_kind }
     ensures text { line.new ≡ line.old ++ fact_words fact.now }
@@ -70,7 +70,7 @@ fn put_fact(line: &mut Line, fact: &Fact)
     }
 }
 
-// The group, and the channel of a fact that is about one channel.
+// Adds the group, and the channel if the fact is about one channel.
 fn put_address(line: &mut Line, address: FactAddress)
     requires { length line.old ≤ before_kind }
     ensures text { line.new ≡ line.old ++ address_text address }
@@ -82,7 +82,7 @@ fn put_address(line: &mut Line, address: FactAddress)
     }
 }
 
-// A number with a space before it.
+// Adds a space and a number.
 #[tactic(auto, unfolding(crate::specs::FactLines::spaced))]
 fn put_spaced(line: &mut Line, number: u32)
     requires { HasRoom (1 + longest_value) line.old }
@@ -113,7 +113,7 @@ fn put_channel(line: &mut Line, group: U4, channel: U4)
     put_spaced(line, channel.get() as u32);
 }
 
-// What has a note or an index, and a value.
+// Adds a fact that has a note or an index, and a value.
 fn put_two_numbers(line: &mut Line, name: &str, first: U7, second: u32)
     requires old { length line.old ≤ behind_channel }
     requires name { length name.now ≤ longest_word }
@@ -125,7 +125,7 @@ fn put_two_numbers(line: &mut Line, name: &str, first: U7, second: u32)
     put_spaced(line, second);
 }
 
-// What has a value alone.
+// Adds a fact that has only a value.
 fn put_value(line: &mut Line, name: &str, value: u32)
     requires old { length line.old ≤ behind_channel }
     requires name { length name.now ≤ longest_word }
@@ -146,7 +146,7 @@ fn put_program(line: &mut Line, program: U7, bank: Option<Bank>)
     put_bank(line, bank);
 }
 
-// The bank that a program change took, if it took one.
+// Adds the bank that a program change selected, if there is one.
 #[tactic(auto, unfolding(crate::specs::FactLines::bank_words))]
 fn put_bank(line: &mut Line, bank: Option<Bank>)
     requires { HasRoom (2 * longest_field) line.old }
@@ -164,7 +164,7 @@ fn put_bank(line: &mut Line, bank: Option<Bank>)
     }
 }
 
-// A parameter by the two parts of its number, with its value.
+// Adds a parameter by the two parts of its number, and the value.
 fn put_param(line: &mut Line, param: Param, value: Option<u32>, loose: bool)
     requires { length line.old ≤ behind_channel }
     ensures text { line.new ≡ line.old
@@ -178,7 +178,7 @@ fn put_param(line: &mut Line, param: Param, value: Option<u32>, loose: bool)
     put_param_value(line, value, loose);
 }
 
-// The value of a parameter, which may never have been set, and which is loose after a relative change.
+// Adds the value of a parameter, which may never have been set, and which is loose after a relative change.
 #[tactic(auto, unfolding(crate::specs::FactLines::value_word, crate::specs::FactLines::loose_word))]
 fn put_param_value(line: &mut Line, value: Option<u32>, loose: bool)
     requires { HasRoom (longest_field + longest_word) line.old }
@@ -194,7 +194,7 @@ fn put_param_value(line: &mut Line, value: Option<u32>, loose: bool)
     }
 }
 
-// How many messages came.
+// Adds the number of messages that came.
 #[tactic(auto, unfolding(crate::specs::FactLines::spaced))]
 fn put_count(line: &mut Line, name: &str, count: u64)
     requires old { length line.old ≤ behind_channel }

@@ -1,4 +1,8 @@
-//! The lines of text that the program writes: those of what is told of a state, and all of `text_lines`.
+//! Writes the lines of text for facts about a receiver's state, for the messages of a byte stream and for the
+//! texts of stream messages. It also exports the lines of `text_lines` and `endpoint_lines`, so that callers
+//! need only this crate.
+//!
+//! Start with [`Line`], which holds one line. [`fact_line`], [`step_line`] and [`text_line`] return one.
 #![tactic(auto)]
 
 mod facts;

@@ -1,4 +1,4 @@
-// The lines of the messages of a stream of MIDI 1.0 bytes.
+// The lines of the messages of a MIDI 1.0 byte stream.
 ghost use Rattle.std.specs.Prelude.{◌≡◌, ◌<◌, ◌≤◌, ◌+◌, ◌++◌, length, codes, decimal, IfSome, Some, None, true, false, if◌then◌else◌};
 ghost use Rattle.midi1_bytes.specs.Answers.{step_view};
 ghost use Rattle.midi1_bytes.specs.Spoken.{voice_in};
@@ -10,10 +10,10 @@ ghost use Rattle.text_lines.specs.Room.{before_kind};
 use midi1_bytes::{AfterCut, Step, System, VoiceBytes};
 use text_lines::{Line, put_decimal, put_system, put_text, put_voice1};
 
-/// The line of what a byte at this offset does, in a stream of MIDI 1.0 bytes, if it completes a message:
-/// the offset in decimal digits, the kind of the message and its fields; of an exclusive its length between
-/// F0 and F7. `None` exactly if it completes none; a tune request is one also if it cuts something off
-/// (own rule).
+/// Returns the line for the message that a byte at this offset completes in a MIDI 1.0 byte stream: the
+/// offset in decimal digits, the kind of the message and its fields. For an exclusive, the field is the
+/// length between F0 and F7. Returns `None` exactly if the byte completes no message. A tune request
+/// completes one, even if it cuts something off (own rule).
 pub fn step_line(step: &Step<'_>, offset: u64) -> Option<Line>
     requires { HasBothEnds step.now }
     ensures text { result ≡ step_text (step_view step.now) offset }
@@ -27,8 +27,8 @@ pub fn step_line(step: &Step<'_>, offset: u64) -> Option<Line>
     }
 }
 
-/// Overwrites the line with that of what a byte does, as `step_line` writes it, and returns whether the byte
-/// completes a message (own rule). If it completes none, the line is unchanged.
+/// Overwrites the line with the line that `step_line` returns, and returns whether the byte completes a
+/// message (own rule). If it completes none, the line is unchanged.
 #[inline(always)]
 pub fn fill_step_line(line: &mut Line, step: &Step<'_>, offset: u64) -> bool
     requires { HasBothEnds step.now }
@@ -80,7 +80,7 @@ fn fill_exclusive_line(line: &mut Line, size: usize, offset: u64)
     put_text(line, "\n");
 }
 
-// Overwrites the line with the offset.
+// Overwrites the line with the offset and a space.
 fn begin(line: &mut Line, offset: u64)
     ensures text { line.new ≡ decimal offset ++ codes " " }
     ensures room { length line.new ≤ before_kind }

@@ -8,9 +8,9 @@ ghost use Rattle.midi_lines.specs.TextRoom.{before_text, longest_text};
 use system_stream::{Joined, TextKind};
 use text_lines::{Line, put_hex_bytes, put_text};
 
-/// The line of a text of this kind that has ended: `text`, the kind, and the bytes in two hexadecimal digits
-/// each, or `bad` (own rule). `None` exactly if the text is held. A whole text has at most as many bytes
-/// as its kind allows: 98, 42 or 91.
+/// Returns the line for a text of this kind that has ended: `text`, the kind, and the bytes in two
+/// hexadecimal digits each, or `bad` (own rule). Returns `None` exactly if the text hasn't ended. A whole
+/// text has at most as many bytes as its kind allows: 98, 42 or 91.
 pub fn text_line(kind: TextKind, joined: &Joined<'_>) -> Option<Line>
     requires { IsWithinLimit kind joined.now }
     ensures text { result ≡ joined_text kind (joined_view joined.now) }
@@ -24,8 +24,8 @@ pub fn text_line(kind: TextKind, joined: &Joined<'_>) -> Option<Line>
     }
 }
 
-/// Overwrites the line with that of a text that has ended, as `text_line` writes it, and returns whether it
-/// has ended (own rule). If the text is held, the line is unchanged.
+/// Overwrites the line with the line that `text_line` returns, and returns whether the text has ended (own
+/// rule). If it hasn't, the line is unchanged.
 pub fn fill_text_line(line: &mut Line, kind: TextKind, joined: &Joined<'_>) -> bool
     requires { IsWithinLimit kind joined.now }
     ensures text { joined_text kind (joined_view joined.now) ≡ (if result then Some line.new else None) }
@@ -68,7 +68,7 @@ fn begin(line: &mut Line, kind: TextKind)
     put_text(line, kind_name(kind));
 }
 
-// Adds bytes with a space before them, or nothing if there are none.
+// Adds a space and the bytes, or nothing if there are no bytes.
 fn put_spaced_bytes(line: &mut Line, bytes: &[u8])
     requires { HasRoom (1 + 2 * length bytes.now) line.old }
     ensures text { line.new ≡ line.old ++ spaced_bytes bytes.now }
@@ -80,7 +80,7 @@ fn put_spaced_bytes(line: &mut Line, bytes: &[u8])
     }
 }
 
-// The word of a kind.
+// Returns the word for a kind.
 fn kind_name(kind: TextKind) -> &'static str
     ensures word { result.now ≡ text_kind_word kind }
     ensures size { length result.now ≤ longest_word }

@@ -1,8 +1,6 @@
-// A line of each kind.
+// Lines that no input of a command leaves. The rows of `worked_rows` tell of a line of each kind.
 mod endpoint;
 mod facts;
-mod listing;
 mod numbers;
-mod packets;
 mod steps;
 mod texts;

@@ -13,8 +13,9 @@ ghost use Rattle.midi_meaning.specs.Worked.CompactRows.{
   sets_of_two_groups,
 };
 
-/// A status byte is left out if it is the running status, and the selection of a parameter if that one is
-/// selected. A tune request ends the running status, and Reset All Controllers the selection.
+/// Proves a row: a status byte that equals the running status is left out, and so is the selection of a
+/// parameter that is already selected. A tune request ends the running status, and Reset All Controllers
+/// ends the selection.
 pub fn statuses_and_selections_are_left_out()
     ensures { styled_pairs false compact_style notes_and_sets ≡
         (0, 0x90 ∷ 0x3c ∷ 0x64 ∷ [])
@@ -28,8 +29,8 @@ pub fn statuses_and_selections_are_left_out()
         ∷ [] }
 {}
 
-/// A program change is written without its bank if both halves of that bank are selected, and otherwise
-/// with both halves.
+/// Proves rows: a program change is written without its bank if both halves of that bank are selected, and
+/// otherwise with both halves.
 pub fn banks_are_left_out()
     ensures same { styled_pairs false compact_style program_twice ≡
         (0, 0xb0 ∷ 0 ∷ 1 ∷ 0x20 ∷ 2 ∷ 0xc0 ∷ 5 ∷ [])
@@ -42,7 +43,7 @@ pub fn banks_are_left_out()
         ∷ [] }
 {}
 
-/// After a System Reset, nothing is left out because of what was written before it.
+/// Proves rows: after a System Reset, nothing is left out because of what was written before it.
 pub fn nothing_is_relied_on_across_a_reset()
     ensures notes { styled_pairs false compact_style notes_across_a_reset ≡
         (0, 0x90 ∷ 0x3c ∷ 0x64 ∷ [])
@@ -56,7 +57,7 @@ pub fn nothing_is_relied_on_across_a_reset()
         ∷ [] }
 {}
 
-/// A clock leaves the running status, and an exclusive ends it.
+/// Proves a row: a clock leaves the running status unchanged, and an exclusive ends it.
 pub fn a_clock_leaves_the_running_status()
     ensures { styled_pairs false compact_style notes_around_a_clock_and_an_exclusive ≡
         (0, 0x90 ∷ 0x3c ∷ 0x64 ∷ [])
@@ -67,8 +68,8 @@ pub fn a_clock_leaves_the_running_status()
         ∷ [] }
 {}
 
-/// A parameter that MIDI 1.0 packets have selected counts as selected for MIDI 2.0 packets too. A control
-/// change that comes as a MIDI 1.0 packet is always written.
+/// Proves rows: a parameter that MIDI 1.0 packets have selected also counts as selected for MIDI 2.0
+/// packets. A control change that comes as a MIDI 1.0 packet is always written.
 pub fn packets_of_both_protocols_select()
     ensures other { styled_pairs false compact_style mixed_protocols ≡
         (0, 0xb0 ∷ 0x65 ∷ 0 ∷ [])
@@ -84,7 +85,7 @@ pub fn packets_of_both_protocols_select()
         ∷ [] }
 {}
 
-/// A lane's registers and running status are those of its own bytes.
+/// Proves a row: the registers and the running status of a lane depend only on the lane's own bytes.
 pub fn each_lane_has_its_own_registers()
     ensures { styled_pairs false compact_style sets_of_two_groups ≡
         (0, 0xb0 ∷ 0x65 ∷ 0 ∷ 0x64 ∷ 0 ∷ 6 ∷ 2 ∷ 0x26 ∷ 0 ∷ [])

@@ -1,4 +1,4 @@
-// Which control changes are direct.
+// The control changes that are direct.
 ghost use Rattle.std.specs.Prelude.{◌≡◌, ◌<◌, ℕ, None, Some, false, slice_index_or};
 ghost use Rattle.midi_meaning.specs.Controllers.{is_direct_in};
 
@@ -6,9 +6,9 @@ use crate::role::ControlRole;
 use std::marker::Model;
 use voice_messages::U7;
 
-/// A table of the indexes whose control change is direct (`ControlRole::is_direct`). It spares the caller a
-/// branch, since the next index can't be predicted. A contract sees whether controllers are paired, or
-/// `None` if no index is marked.
+/// A table that marks the indexes whose control change is direct (`ControlRole::is_direct`). The next index
+/// can't be predicted, and the table spares the caller a branch on it. In contracts its value is whether
+/// controllers are paired, or `None` if no index is marked.
 #[derive(Drop)]
 pub struct DirectControls {
     paired: Option<bool>,
@@ -27,14 +27,14 @@ impl Model for DirectControls {
         slice_index_or direct.marked index false ≡ is_direct_in direct.paired index };
 }
 
-// Whether the control change with this index is direct.
+// Returns whether the control change with this index is direct.
 fn is_direct(paired: bool, index: U7) -> bool
     ensures { result ≡ is_direct_in (Some paired) index }
 {
     ControlRole::of(index).pairing(paired).is_direct()
 }
 
-// The marks of all indexes.
+// Returns the marks of all indexes.
 fn marks(paired: bool) -> [bool; 128]
     ensures { (index : ℕ) → index < 128 →
         slice_index_or result index false ≡ is_direct_in (Some paired) index }
@@ -47,7 +47,7 @@ fn marks(paired: bool) -> [bool; 128]
 }
 
 impl DirectControls {
-    /// A table that marks each direct control change, with controllers paired or not (own rule).
+    /// Creates a table that marks each direct control change, with controllers paired or not (own rule).
     pub fn new(paired: bool) -> DirectControls
         ensures { result ≡ Some paired }
     {
@@ -57,7 +57,7 @@ impl DirectControls {
         }
     }
 
-    /// A table that marks none.
+    /// Creates a table that marks no index.
     pub fn none() -> DirectControls
         ensures { result ≡ None }
     {
@@ -67,7 +67,7 @@ impl DirectControls {
         }
     }
 
-    /// Whether the control change with this index, 0 to 127, is marked.
+    /// Returns whether the control change with this index, 0 to 127, is marked.
     #[inline(always)]
     pub fn has(&self, index: U7) -> bool
         ensures { result ≡ is_direct_in self.now index }

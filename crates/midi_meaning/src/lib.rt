@@ -1,5 +1,10 @@
-//! What the bytes of a MIDI 1.0 stream and the packets of a group mean, when they mean the same, which of
-//! them are carried, listed or refused, and how each becomes the other.
+//! Defines the meaning of the bytes of a MIDI 1.0 stream and of the packets of a group, and when the two
+//! mean the same. It also defines which packets and bytes are translated, listed or refused, and how each
+//! becomes the other.
+//!
+//! Start with the laws `plain_pairs_are_a_translation` in [`laws`] and `raised_packets_mean_the_bytes` in
+//! [`up_laws`]. A translator uses [`Registers`], the selected bank and parameter of a channel, and
+//! [`ControlRole`], the role of a control change.
 #![tactic(auto)]
 
 pub mod compact_rows;

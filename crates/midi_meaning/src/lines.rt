@@ -1,4 +1,4 @@
-// The lines of what a byte does, and of what is open at the end.
+// The lines of the listing for a byte, and for a message that is open at the end.
 ghost use Rattle.std.specs.Prelude.{◌≡◌};
 ghost use Rattle.listing_terms.specs.ByteLines.{told_of};
 ghost use Rattle.listing_terms.specs.declared.listed.Kind.TheVariants as kinds;
@@ -7,7 +7,7 @@ ghost use Rattle.midi_meaning.specs.StepListing.{cut_kind, open_kind};
 use listing_terms::{ByteLine, Kind};
 use midi1_bytes::CutKind;
 
-/// The line of a byte at this offset that belongs to nothing (own rule).
+/// Returns the line of a byte at this offset that belongs to no message (own rule).
 pub fn stray(offset: u64) -> ByteLine
     ensures { told_of result ≡ (kinds.Stray, offset) }
 {
@@ -17,7 +17,7 @@ pub fn stray(offset: u64) -> ByteLine
     }
 }
 
-/// The line of a status at this offset that no message has (own rule).
+/// Returns the line of a status byte at this offset that no message has (own rule).
 pub fn undefined(offset: u64) -> ByteLine
     ensures { told_of result ≡ (kinds.Undefined, offset) }
 {
@@ -27,7 +27,7 @@ pub fn undefined(offset: u64) -> ByteLine
     }
 }
 
-/// The line of a data entry without a selected parameter, completed at this offset (own rule).
+/// Returns the line of a data entry without a selected parameter, completed at this offset (own rule).
 pub fn ignored(offset: u64) -> ByteLine
     ensures { told_of result ≡ (kinds.IgnoredDataEntry, offset) }
 {
@@ -37,7 +37,7 @@ pub fn ignored(offset: u64) -> ByteLine
     }
 }
 
-/// The line of what started at this offset and is cut off (own rule).
+/// Returns the line of the message or exclusive that started at this offset and is cut off (own rule).
 pub fn cut_off(start: u64, what: CutKind) -> ByteLine
     ensures { told_of result ≡ (cut_kind what, start) }
 {
@@ -47,7 +47,7 @@ pub fn cut_off(start: u64, what: CutKind) -> ByteLine
     }
 }
 
-/// The kind of the line of what is cut off (own rule).
+/// Returns the kind of line for a message or exclusive that is cut off (own rule).
 pub fn kind_of_cut(what: CutKind) -> Kind
     ensures { result ≡ cut_kind what }
 {
@@ -57,7 +57,7 @@ pub fn kind_of_cut(what: CutKind) -> Kind
     }
 }
 
-/// The kind of the line of what is open at the end (own rule).
+/// Returns the kind of line for a message or exclusive that is open at the end (own rule).
 pub fn kind_of_open(what: CutKind) -> Kind
     ensures { result ≡ open_kind what }
 {

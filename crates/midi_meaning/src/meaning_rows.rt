@@ -1,4 +1,5 @@
-// Worked rows of the meaning: what bytes and packets leave, computed from the definitions alone.
+// Worked rows of the meaning: the state in which bytes and packets leave a receiver, computed from the
+// definitions alone.
 ghost use Rattle.std.specs.Prelude.{◌≡◌, [], ◌∷◌, ◌++◌, Some, None, true, false};
 ghost use Rattle.voice_messages.specs.declared.voice1.System.TheVariants as system;
 ghost use Rattle.midi1_bytes.specs.Messages.{common, exclusive};
@@ -37,9 +38,10 @@ ghost use Rattle.midi_meaning.specs.Registers.{bank_of, selected};
 ghost use Rattle.midi_meaning.specs.Worked.Rows.{registered};
 ghost use Rattle.midi_meaning.specs.State.{mode, off, on};
 
-/// Control change 121 in a stream of bytes (RP-015): expression is at its greatest, modulation and the pedals
-/// 64 to 67 are at 0, the controllers beside them are unchanged; the bend is at its centre, no pressure is
-/// left, and no parameter is selected. The bank and the values of parameters are unchanged.
+/// Proves rows for control change 121 in a stream of bytes (RP-015). Expression is at its maximum,
+/// modulation and the pedals 64 to 67 are at 0, and the controllers beside them are unchanged. The bend is
+/// at its centre, no pressure is left, and no parameter is selected. The bank and the values of parameters
+/// are unchanged.
 pub fn bytes_reset_all_controllers()
     ensures expression { (over_bytes bytes_with_reset).controllers 11 ≡ Some 127 }
     ensures modulation { (over_bytes bytes_with_reset).controllers 1 ≡ Some 0 }
@@ -55,7 +57,7 @@ pub fn bytes_reset_all_controllers()
     ensures mode { (over_bytes bytes_with_reset).acts ≡ mode 121 0 ∷ [] }
 {}
 
-/// The same in packets, at the values of MIDI 2.0.
+/// Proves the same rows for packets, at the values of MIDI 2.0.
 pub fn packets_reset_all_controllers()
     ensures expression { (over_packets packets_with_reset).controllers 11 ≡ Some 0xffff_ffff }
     ensures modulation { (over_packets packets_with_reset).controllers 1 ≡ Some 0 }
@@ -72,7 +74,7 @@ pub fn packets_reset_all_controllers()
     ensures mode { (over_packets packets_with_reset).acts ≡ mode 121 0 ∷ [] }
 {}
 
-/// A packet of the MIDI 1.0 protocol resets the same.
+/// Proves that control change 121 in a packet of the MIDI 1.0 protocol resets the same values.
 pub fn midi1_packets_reset_all_controllers()
     ensures controllers { controllers_at (11 ∷ 1 ∷ 64 ∷ 67 ∷ 63 ∷ 68 ∷ [])
         (over_packets packets_with_midi1_reset)
@@ -84,8 +86,8 @@ pub fn midi1_packets_reset_all_controllers()
     ensures mode { (over_packets packets_with_midi1_reset).acts ≡ mode 121 0 ∷ [] }
 {}
 
-/// What each kind of voice message of a stream of bytes leaves, at the values of MIDI 1.0. A note on of
-/// velocity 0 is a note off.
+/// Proves the state after each kind of voice message in a stream of bytes, at the values of MIDI 1.0. A
+/// note on of velocity 0 is a note off.
 pub fn each_voice_message_of_bytes_is_kept()
     ensures notes { (over_bytes bytes_of_each_kind).acts ≡ on 60 100 ∷ off 62 64 ∷ off 60 32 ∷ [] }
     ensures poly_pressure { (over_bytes bytes_of_each_kind).poly 60 ≡ Some 100 }
@@ -97,7 +99,7 @@ pub fn each_voice_message_of_bytes_is_kept()
     ensures other_channel { ((mean1 false bytes_of_each_kind).channels 1).bend ≡ 8192 }
 {}
 
-/// The same in packets of the MIDI 1.0 protocol, whose values are raised (M2-115-U).
+/// Proves the same for packets of the MIDI 1.0 protocol, whose values are scaled up (M2-115-U).
 pub fn each_voice_message_of_midi1_packets_is_kept()
     ensures notes { (over_packets midi1_packets_of_each_kind).acts
         ≡ on 60 51492 ∷ off 62 32768 ∷ off 60 16384 ∷ [] }
@@ -111,7 +113,8 @@ pub fn each_voice_message_of_midi1_packets_is_kept()
     ensures other_group { ((mean2 false midi1_packets_of_each_kind 1).channels 0).bend ≡ 0x8000_0000 }
 {}
 
-/// Packets of the MIDI 2.0 protocol are kept with their own values, a note on of velocity 0 as a note on.
+/// Proves that packets of the MIDI 2.0 protocol are stored with their own values, and a note on of velocity
+/// 0 as a note on.
 pub fn each_voice_message_of_midi2_packets_is_kept()
     ensures notes { (over_packets midi2_packets_of_each_kind).acts ≡ on 60 511 ∷ on 62 0 ∷ off 60 0 ∷ [] }
     ensures poly_pressure { (over_packets midi2_packets_of_each_kind).poly 60 ≡ Some 0x1234_5678 }
@@ -124,9 +127,11 @@ pub fn each_voice_message_of_midi2_packets_is_kept()
     ensures nothing { over_packets packets_without_meaning ≡ over_packets [] }
 {}
 
-/// Data entry sets the selected parameter: an MSB with an LSB of 0, an LSB with the MSB that was there or 0;
-/// the null parameter takes none. In packets a parameter is set with its value, a relative change makes it
-/// loose and leaves its value, and a data entry computes at fourteen bits: its LSB leaves it loose, its MSB
+/// Proves rows for parameters. A data entry sets the selected parameter: an MSB sets it with an LSB of 0,
+/// and an LSB keeps the MSB that was there, or 0. The null parameter accepts no value.
+///
+/// In packets, a parameter is set to its value. A relative change makes the parameter loose and leaves its
+/// value unchanged. A data entry computes with fourteen bits: its LSB leaves the parameter loose, its MSB
 /// doesn't.
 pub fn parameters_are_set_and_changed()
     ensures assignable_msb { (over_bytes bytes_with_parameters).params (assignable 1 2) ≡ Some 384 }
@@ -142,8 +147,8 @@ pub fn parameters_are_set_and_changed()
         ≡ false }
 {}
 
-/// A program change takes the selected bank with both halves, an unset one as 0, and no bank if neither
-/// is set. In packets a program with its bank also sets both halves.
+/// Proves rows for programs. A program change takes both halves of the selected bank, with 0 for an unset
+/// half, and no bank if neither half is set. In packets, a program with a bank also sets both halves.
 pub fn programs_take_the_bank()
     ensures none { (over_bytes (0xc0 ∷ 5 ∷ [])).program ≡ Some (record { program = 5; bank = None }) }
     ensures both { (over_bytes (0xb0 ∷ 0 ∷ 1 ∷ 32 ∷ 2 ∷ 0xc0 ∷ 5 ∷ [])).program
@@ -159,8 +164,8 @@ pub fn programs_take_the_bank()
         ≡ Some (record { program = 6; bank = Some (bank_of_halves 0 2) }) }
 {}
 
-/// System common messages and exclusives are kept in one list, and Real Time messages in another. Each
-/// group has its own lists. System Reset does nothing else.
+/// Proves rows for system messages. System common messages and exclusives are stored in one list, and Real
+/// Time messages in another. Each group has its own lists. System Reset has no other effect.
 pub fn system_messages_are_kept_in_two_lists()
     ensures commons { (mean1 false bytes_of_the_system).commons
         ≡ common (system.Quarter 0x21) ∷ exclusive (1 ∷ 2 ∷ []) ∷ common system.Tune ∷ [] }
@@ -172,7 +177,7 @@ pub fn system_messages_are_kept_in_two_lists()
     ensures other_group { (mean2 false packets_of_the_system 1).real_times ≡ system.Start ∷ [] }
 {}
 
-/// Control changes from 120 on are channel mode messages, which set no controller.
+/// Proves rows: control changes from 120 on are channel mode messages, which set no controller.
 pub fn mode_messages_are_kept_with_the_notes()
     ensures modes { (over_bytes bytes_of_modes).acts
         ≡ mode 120 0 ∷ mode 122 127 ∷ mode 123 0 ∷ mode 124 0 ∷ mode 125 0 ∷ mode 126 1 ∷ mode 127 0 ∷ [] }
@@ -184,8 +189,9 @@ pub fn mode_messages_are_kept_with_the_notes()
         ≡ Some 0x1234_5678 ∷ None ∷ None ∷ [] }
 {}
 
-/// Each kind of packet that MIDI 1.0 has no message for is listed, with its offset and its group, if it has
-/// one. Carried packets aren't listed, except a note with an attribute, which is carried without it.
+/// Proves rows: each kind of packet for which MIDI 1.0 has no message is listed, with its offset and its
+/// group, if it has one. Translated packets aren't listed, except for a note with an attribute, which is
+/// translated without it.
 pub fn each_kind_of_packet_is_listed()
     ensures each { listing_of false None packets_of_each_listed_kind
         ≡ record { offset = 0; group = None; kind = kinds.Utility }

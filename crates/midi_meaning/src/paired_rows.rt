@@ -1,4 +1,4 @@
-// Worked rows of paired controllers, and the same without pairs (own rule).
+// Worked rows of paired controllers, and the same rows without pairs (own rule).
 ghost use Rattle.std.specs.Prelude.{◌≡◌, [], ◌∷◌, map, true, false, Some, None};
 ghost use Rattle.voice_messages.specs.declared.voice2.Voice2.TheVariants as voice2;
 ghost use Rattle.ump_grammar.specs.declared.packet.Packet.TheVariants as packet;
@@ -24,7 +24,8 @@ ghost use Rattle.midi_meaning.specs.Raising.{packets_of_bytes};
 ghost use Rattle.midi_meaning.specs.Worked.Rows.{registered};
 ghost use Rattle.midi_meaning.specs.Styles.{compact_style, styled_pairs};
 
-/// A MIDI 2.0 control change of a pair is written as MSB and LSB. Compact style also writes both halves.
+/// Proves rows: a MIDI 2.0 control change for a pair is written as MSB and LSB. Compact style also writes
+/// both halves.
 pub fn a_pair_is_written_as_both_halves()
     ensures plain { plain_pairs true volume ≡ (0, 0xb0 ∷ 7 ∷ 0x64 ∷ 0xb0 ∷ 0x27 ∷ 0x49 ∷ []) ∷ [] }
     ensures compact { styled_pairs true compact_style volume_twice ≡
@@ -32,7 +33,7 @@ pub fn a_pair_is_written_as_both_halves()
     ensures alone { plain_pairs false volume ≡ (0, 0xb0 ∷ 7 ∷ 0x64 ∷ []) ∷ [] }
 {}
 
-/// A MIDI 2.0 control change of an LSB is listed, and not carried.
+/// Proves rows: a MIDI 2.0 control change for an LSB is listed, and not translated.
 pub fn an_lsb_of_midi2_is_listed()
     ensures listing { listing_of true None volume_lsb ≡
         record { offset = 0; group = Some 0; kind = kinds.FineController } ∷ [] }
@@ -42,8 +43,8 @@ pub fn an_lsb_of_midi2_is_listed()
         (0, 0xb0 ∷ 0x27 ∷ 0x64 ∷ []) ∷ [] }
 {}
 
-/// Each half of a pair is a packet with the new value of fourteen
-/// bits, raised; an MSB comes back with an LSB of 0.
+/// Proves rows: each half of a pair becomes a packet with the new value of fourteen bits, scaled up. An MSB
+/// comes back with an LSB of 0.
 pub fn halves_are_raised_one_by_one()
     ensures packets { packets_of_bytes true None 0 both_halves ≡
         control_of 7 0xc8024012 ∷ control_of 7 0xc81640b2 ∷ [] }
@@ -53,7 +54,8 @@ pub fn halves_are_raised_one_by_one()
     ensures alone_back { back_of_bytes false None 0 msb_alone ≡ 0xb0 ∷ 7 ∷ 0x64 ∷ [] }
 {}
 
-/// Reset all controllers gives expression its greatest value of fourteen bits, whose MSB an LSB keeps.
+/// Proves rows: Reset All Controllers sets expression to its maximum of fourteen bits, and an LSB keeps the
+/// MSB of that value.
 pub fn an_lsb_after_a_reset_keeps_the_greatest_msb()
     ensures packets { packets_of_bytes true None 0 lsb_after_reset ≡
         control_of 0x79 0 ∷ control_of 11 0xfe17f0bf ∷ [] }
@@ -61,7 +63,8 @@ pub fn an_lsb_after_a_reset_keeps_the_greatest_msb()
     ensures alone { ((mean1 false lsb_after_reset).channels 0).controllers 11 ≡ Some 127 }
 {}
 
-/// An MSB clears its LSB; an LSB keeps the MSB, on packets that of the value of fourteen bits.
+/// Proves rows: an MSB clears its LSB. An LSB keeps the MSB; in packets, it keeps the MSB of the value of
+/// fourteen bits.
 pub fn halves_of_a_pair_are_one_value()
     ensures lsb { ((mean1 true both_halves).channels 0).controllers 7 ≡ Some 12805 }
     ensures none { ((mean1 true both_halves).channels 0).controllers 0x27 ≡ None }
@@ -71,7 +74,7 @@ pub fn halves_of_a_pair_are_one_value()
     ensures other { ((mean1 false both_halves).channels 0).controllers 0x27 ≡ Some 5 }
 {}
 
-/// Controllers 6 and 38 are data entry, with pairs too.
+/// Proves rows: controllers 6 and 38 are data entry, also with pairs.
 pub fn data_entry_is_no_pair()
     ensures packets { packets_of_bytes true None 0 data_entry ≡
         packet.Voice2 0 (voice2.Set 0 (registered 0 0) 0x04000000)

@@ -1,4 +1,4 @@
-// The registers of a channel: its bank and the numbers of its parameters, half by half.
+// The registers of a channel: the two halves of its bank and of its parameter numbers.
 ghost use Rattle.std.specs.Prelude.{◌≡◌, ◌<◌, IfSome};
 ghost use Rattle.voice_messages.specs.Ranges.{IsParam};
 ghost use Rattle.midi_meaning.specs.Controllers.{role_of};
@@ -20,8 +20,8 @@ use voice_messages::{Bank, Param, ParamKind, U7};
 // Both halves of the null parameter.
 const NULL: u8 = 127;
 
-/// Whether this is the null parameter 127/127, which selects none (MIDI 1.0 Detailed Specification,
-/// registered and non-registered parameter numbers).
+/// Returns whether this is the null parameter 127/127, which selects no parameter (MIDI 1.0 Detailed
+/// Specification, registered and non-registered parameter numbers).
 #[inline(always)]
 pub fn is_null_param(param: &Param) -> bool
     ensures { result ≡ is_null param.now }
@@ -29,7 +29,7 @@ pub fn is_null_param(param: &Param) -> bool
     param.bank.get() == NULL && param.index.get() == NULL
 }
 
-// A bank or a parameter's number, of which each half may be unset.
+// A bank or a parameter number, each half of which may be unset.
 #[derive(Clone, Copy, Debug)]
 struct Pair {
     msb: Option<U7>,
@@ -69,7 +69,7 @@ impl Pair {
         }
     }
 
-    // The parameter of a whole number that isn't the null number 127/127.
+    // Returns the parameter of a number, or `None` if a half is unset or it is the null number 127/127.
     fn param(self, kind: ParamKind) -> Option<Param>
         ensures param { result ≡ selected_by kind self.msb self.lsb }
         ensures in_range { IfSome result IsParam }
@@ -88,7 +88,7 @@ impl Pair {
 
 /// The bank and the two parameter numbers of a channel, each half set or unset, and which of the two
 /// numbers was touched last (MIDI 1.0 Detailed Specification, bank select, registered and non-registered
-/// parameter numbers). A contract sees the registers of the definition.
+/// parameter numbers). In contracts its value is the registers of the definition.
 #[derive(Drop)]
 pub struct Registers {
     bank: Pair,
@@ -111,7 +111,7 @@ impl Model for Registers {
 }
 
 impl Registers {
-    /// Registers of which no half is set, and neither number was touched.
+    /// Creates registers with no half set and neither number touched.
     pub fn unset() -> Registers
         ensures { result ≡ unset_registers }
     {
@@ -123,9 +123,9 @@ impl Registers {
         }
     }
 
-    /// Takes a control change of seven bits. A half that it sets leaves the other one; reset all controllers
-    /// sets both numbers to the null parameter (RP-015). Data entries and all other control changes leave the
-    /// registers as they are.
+    /// Updates the registers for a control change of seven bits. If it sets a half, the other half is
+    /// unchanged. Reset All Controllers sets both numbers to the null parameter (RP-015). Data entries and
+    /// all other control changes leave the registers unchanged.
     #[inline(always)]
     pub fn control(&mut self, index: U7, value: U7)
         ensures { self.new ≡ registers_after (role_of index) value self.old }
@@ -133,7 +133,8 @@ impl Registers {
         self.take(ControlRole::of(index), value);
     }
 
-    /// Takes a control change of 0 to 127 whose role is already known, as `control` does.
+    /// Updates the registers as `control` does, for a control change of 0 to 127 whose role is already
+    /// known.
     #[inline(always)]
     pub fn take(&mut self, role: ControlRole, value: U7)
         ensures { self.new ≡ registers_after (role_in role) value self.old }
@@ -172,22 +173,22 @@ impl Registers {
         }
     }
 
-    /// The MSB of the bank, if it was set.
+    /// Returns the MSB of the bank, if it was set.
     pub fn bank_msb(&self) -> Option<U7>
         ensures { result ≡ self.now.bank.msb }
     {
         self.bank.msb
     }
 
-    /// The LSB of the bank, if it was set.
+    /// Returns the LSB of the bank, if it was set.
     pub fn bank_lsb(&self) -> Option<U7>
         ensures { result ≡ self.now.bank.lsb }
     {
         self.bank.lsb
     }
 
-    /// Returns the bank that a program change takes (MIDI 1.0 Detailed Specification, bank select): an
-    /// unset half is 0. `None` exactly if neither half is set.
+    /// Returns the bank for a program change (MIDI 1.0 Detailed Specification, bank select). An unset half
+    /// is 0. `None` exactly if neither half is set.
     pub fn bank(&self) -> Option<Bank>
         ensures { result ≡ bank_of self.now }
     {
@@ -200,7 +201,7 @@ impl Registers {
         }
     }
 
-    /// Returns the parameter that a data entry sets, which is the one of the number touched last (MIDI 1.0
+    /// Returns the parameter that a data entry sets: the one whose number was touched last (MIDI 1.0
     /// Detailed Specification, registered and non-registered parameter numbers). `None` exactly if no
     /// number was touched, if a half of it is unset, or if it is the null parameter 127/127.
     pub fn selected(&self) -> Option<Param>
@@ -214,7 +215,7 @@ impl Registers {
         }
     }
 
-    /// Takes the bank of a program change (M2-104-UM, MIDI 2.0 program change).
+    /// Sets the bank to that of a program change (M2-104-UM, MIDI 2.0 program change).
     pub fn take_bank(&mut self, bank: Bank)
         ensures { self.new ≡ with_bank bank self.old }
     {

@@ -1,4 +1,4 @@
-// What a control change is by its index.
+// The roles of control changes.
 ghost use Rattle.std.specs.Prelude.{◌≡◌, ℕ};
 ghost use Rattle.midi_meaning.specs.Controllers.{is_direct, pairing, role_of};
 ghost use Rattle.midi_meaning.specs.Indexes.{HasIndex, HasIndexIn};
@@ -22,11 +22,11 @@ pub enum ControlRole {
     DataIncrement,
     /// 97: data decrement.
     DataDecrement,
-    /// The MSB of a parameter's number: 101 of a registered one, 99 of an assignable (non-registered) one.
+    /// The MSB of a parameter number: 101 for a registered one, 99 for an assignable (non-registered) one.
     NumberMsb(ParamKind),
-    /// The LSB of a parameter's number: 100 of a registered one, 98 of an assignable (non-registered) one.
+    /// The LSB of a parameter number: 100 for a registered one, 98 for an assignable (non-registered) one.
     NumberLsb(ParamKind),
-    /// 121: reset all controllers, which is a channel mode message too (RP-015).
+    /// 121: Reset All Controllers, which is also a channel mode message (RP-015).
     ResetAll,
     /// 120, and 122 to 127: the other channel mode messages.
     ChannelMode,
@@ -39,7 +39,7 @@ pub enum ControlRole {
 }
 
 impl ControlRole {
-    /// The role of the control change with this index.
+    /// Returns the role of the control change with this index.
     #[tactic(auto, unfolding(crate::specs::Controllers::role_of))]
     #[inline(always)]
     pub fn of(index: U7) -> ControlRole
@@ -65,8 +65,8 @@ impl ControlRole {
         }
     }
 
-    /// The role with controllers paired or not: without pairs an MSB or LSB is a controller like all
-    /// others (own rule).
+    /// Returns the role with controllers paired or not. Without pairs, an MSB or LSB is a controller like
+    /// all others (own rule).
     #[inline(always)]
     pub fn pairing(self, paired: bool) -> ControlRole
         ensures role { role_in result ≡ pairing paired (role_in self) }
@@ -79,9 +79,9 @@ impl ControlRole {
         }
     }
 
-    /// Whether the control change only gives a controller its value, or is a channel mode message other
-    /// than Reset All Controllers (MIDI 1.0 Detailed Specification). Such a control change selects, enters
-    /// and resets nothing, and is no half of a pair.
+    /// Returns whether the control change only sets its controller to a value, or is a channel mode message
+    /// other than Reset All Controllers (MIDI 1.0 Detailed Specification). Such a control change selects,
+    /// enters and resets nothing, and isn't half of a pair.
     #[inline(always)]
     pub fn is_direct(self) -> bool
         ensures { result ≡ is_direct (role_in self) }

@@ -1,5 +1,5 @@
-// What holds of all streams of bytes that are raised to packets, with paired controllers or without. Bytes
-// that are called `past` are listed newest first.
+// Laws that hold for all streams of bytes that are translated up to packets, with or without paired
+// controllers. Bytes that are called `past` are listed newest first.
 ghost use Rattle.std.specs.Prelude.{
   ◌≡◌,
   ◌<◌,
@@ -44,8 +44,9 @@ ghost use Rattle.midi_meaning.specs.UpRefusal.{AreStepsWithinRoom};
 use midi1_bytes::laws::{completed_messages_are_in_range, written_messages_are_read_again};
 use sysex_groups::laws::cut_payload_is_joined;
 
-/// After each byte the packets of the bytes so far, raised into any group, mean there what the bytes mean. A
-/// data increment or decrement, which is refused, changes neither meaning.
+/// Proves that, after each byte, the packets of the bytes so far, translated up into any group, mean in
+/// that group what the bytes mean. A data increment or decrement, which is refused, changes neither
+/// meaning.
 pub fn raised_packets_mean_the_bytes()
     ensures { (paired : Bool) → RaisedPacketsMeanTheBytes paired }
 {
@@ -53,8 +54,8 @@ pub fn raised_packets_mean_the_bytes()
     completed_messages_are_in_range();
 }
 
-/// The packets of each byte in one of the sixteen groups are ones that words spell, with their fields in
-/// range; so is each packet of an exclusive.
+/// Proves that the packets of each byte in one of the sixteen groups, and each packet of an exclusive, are
+/// ones that words encode, with their fields in range.
 pub fn raised_packets_are_in_range()
     ensures { (paired : Bool) → RaisedPacketsAreInRange paired }
 {
@@ -62,15 +63,16 @@ pub fn raised_packets_are_in_range()
     completed_messages_are_in_range();
 }
 
-/// If no exclusive in the bytes exceeds the limit, their steps, what is open after them, their packets,
-/// the bytes that come back and their lines are those without a limit. Accepted bytes are of this kind.
+/// Proves that a limit doesn't matter if no exclusive in the bytes exceeds it: their steps, the message
+/// that is open after them, their packets, the bytes that come back and their lines are the same as without
+/// a limit. Accepted bytes are of this kind.
 pub fn rooms_that_are_not_reached_do_not_matter_in_bytes()
     ensures { (paired : Bool) → RoomsThatAreNotReachedDoNotMatterInBytes paired }
 {}
 
-/// There and back: after each byte, the plain pieces of the packets to which the bytes so far are raised
-/// leave a receiver in the state in which the bytes themselves leave it, except for registers. The pieces are
-/// the bytes of the group's lane.
+/// Proves the way up and back: after each byte, the plain pieces of the packets for the bytes so far leave
+/// a receiver in the same state as the bytes themselves, except for registers. The pieces are the bytes of
+/// the group's lane.
 pub fn bytes_that_come_back_mean_the_same()
     ensures { (paired : Bool) → BytesThatComeBackMeanTheSame paired }
 {
@@ -79,17 +81,17 @@ pub fn bytes_that_come_back_mean_the_same()
     written_messages_are_read_again();
 }
 
-/// The packets to which bytes are raised within a limit come back silently, whatever their offsets: of the
-/// first of them, each is accepted on the way down with that limit and isn't listed, and it is carried unless
-/// it is a part of an exclusive that others follow. After all packets of some bytes no group has an exclusive
-/// open, and the way down has listed nothing.
+/// Proves that the packets into which bytes are translated within a limit come back silently, whatever
+/// their offsets. Each packet is accepted on the way down with that limit and isn't listed, and it is
+/// translated unless it is a part of an exclusive that other parts follow. After all packets of some bytes,
+/// no group has an exclusive open, and the way down has listed nothing.
 pub fn raised_packets_come_back_in_silence()
     ensures { (paired : Bool) → RaisedPacketsComeBackInSilence paired }
 {}
 
-/// One more byte, after bytes in the order in which they come: its packets, lines and pieces come after those
-/// before it, and the meaning takes the message that it completes, which is the same within a limit that
-/// isn't exceeded.
+/// Proves the effect of one more byte, after bytes in the order in which they come. Its packets, lines and
+/// pieces come after those of the bytes before it. The meaning takes the message that the byte completes,
+/// which is the same within a limit that isn't exceeded.
 pub fn one_more_byte_is_raised()
     ensures packets { (paired : Bool) (room : Room) (group : ℕ) (bytes : List ℕ) (byte : ℕ) →
         packets_of_bytes paired room group (bytes ++ byte ∷ []) ≡
@@ -108,8 +110,9 @@ pub fn one_more_byte_is_raised()
         (option_to_list (completed_by (step_of (Some room) past byte))) }
 {}
 
-/// What bytes leave in a receiver is in range: values of parameters have fourteen bits, the bank and the
-/// selected parameter seven bits in each half. An exclusive that is completed fits its limit.
+/// Proves that the state in which bytes leave a receiver is in range: values of parameters have fourteen
+/// bits, and the bank and the selected parameter have seven bits in each half. A completed exclusive fits
+/// its limit.
 pub fn what_bytes_leave_is_in_range()
     ensures values { (paired : Bool) (past : List ℕ) (channel : ℕ) (param : Param) →
         unwrap_or (((meaning1 paired past).channels channel).params param) 0 < 2 ^ 14 }
@@ -124,7 +127,7 @@ pub fn what_bytes_leave_is_in_range()
     completed_messages_are_in_range();
 }
 
-/// A packet adds its piece after those of the packets before it.
+/// Proves that a packet adds its piece after the pieces of the packets before it.
 pub fn pieces_come_packet_by_packet()
     ensures { (paired : Bool) (past packets : List Packet) (packet : Packet) →
         pieces_of paired past (packets ++ packet ∷ []) ≡

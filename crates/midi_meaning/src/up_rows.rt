@@ -1,4 +1,5 @@
-// Worked rows of the way up: bytes whose packets, lines and pieces are computed from the definitions alone.
+// Worked rows of the way up: bytes with their packets, lines and pieces, computed from the definitions
+// alone.
 ghost use Rattle.std.specs.Prelude.{false, ◌≡◌, List, [], ◌∷◌, reverse, Option, Some, None};
 ghost use Rattle.voice_messages.specs.declared.voice1.System.TheVariants as system;
 ghost use Rattle.voice_messages.specs.declared.voice2.Form.TheVariants as form;
@@ -26,8 +27,8 @@ ghost use Rattle.midi_meaning.specs.Worked.Rows.{
 ghost use Rattle.midi_meaning.specs.StepListing.{listing_of_bytes};
 ghost use Rattle.midi_meaning.specs.UpRefusal.{refusal_up};
 
-/// Two notes under running status with a clock between their data bytes; a Note On of velocity 0, which
-/// is a Note Off and comes back as one; a controller and a bend.
+/// Proves rows: two notes under running status with a clock between their data bytes, and a Note On of
+/// velocity 0, which is a Note Off and comes back as one; a controller and a bend.
 pub fn voice_messages_are_raised()
     ensures notes { packets_of_bytes false None 0 notes_and_a_clock ≡
         packet.Voice2 0 (voice2.NoteOn 0 0x3c 0xc924 0 0)
@@ -43,7 +44,8 @@ pub fn voice_messages_are_raised()
         ∷ [] }
 {}
 
-/// Each data entry of a selected parameter is a packet of its own; an LSB keeps the MSB of its own parameter.
+/// Proves rows: each data entry for a selected parameter becomes a packet of its own. An LSB keeps the MSB
+/// of its own parameter.
 pub fn data_entries_are_raised_one_by_one()
     ensures both_halves { packets_of_bytes false None 0 entry_of_both_halves ≡
         packet.Voice2 0 (voice2.Set 0 (registered 0 0) 0x04000000)
@@ -61,7 +63,8 @@ pub fn data_entries_are_raised_one_by_one()
         ∷ [] }
 {}
 
-/// Reset all controllers leaves no parameter selected: a data entry after it is listed, and gives no packet.
+/// Proves rows: Reset All Controllers leaves no parameter selected, so a data entry after it is listed and
+/// becomes no packet.
 pub fn a_data_entry_after_a_reset_is_listed()
     ensures packets { packets_of_bytes false None 0 entry_after_reset ≡
         packet.Voice2 0 (voice2.Control 0 0x79 0) ∷ [] }
@@ -69,7 +72,7 @@ pub fn a_data_entry_after_a_reset_is_listed()
         record { offset = 8; group = Some 0; kind = kinds.IgnoredDataEntry } ∷ [] }
 {}
 
-/// Bank control changes give no packet; the program change takes both halves.
+/// Proves rows: control changes for the bank become no packet, and the program change takes both halves.
 pub fn a_program_change_takes_its_bank()
     ensures alone { packets_of_bytes false None 0 program_alone ≡
         packet.Voice2 0 (voice2.Program 0 5 None) ∷ [] }
@@ -77,7 +80,7 @@ pub fn a_program_change_takes_its_bank()
         packet.Voice2 0 (voice2.Program 0 5 (Some (record { msb = 1; lsb = 2 }))) ∷ [] }
 {}
 
-/// An exclusive is cut every six bytes, and comes back whole.
+/// Proves rows: an exclusive is cut every six bytes, and comes back whole.
 pub fn an_exclusive_is_cut_and_comes_back()
     ensures packets { packets_of_bytes false None 3 long_exclusive ≡
         packet.Exclusive 3 form.Start (1 ∷ 2 ∷ 3 ∷ 4 ∷ 5 ∷ 6 ∷ [])
@@ -86,7 +89,8 @@ pub fn an_exclusive_is_cut_and_comes_back()
     ensures back { back_of_bytes false None 3 long_exclusive ≡ long_exclusive }
 {}
 
-/// Stray bytes, a message and an exclusive that are cut, and a tune request that cuts one.
+/// Proves rows: stray bytes, a message and an exclusive that are cut off, and a tune request that cuts one
+/// off.
 pub fn strays_and_cuts_are_listed()
     ensures packets { packets_of_bytes false None 0 strays_and_cuts ≡ packet.System 0 system.Tune ∷ [] }
     ensures listing { listing_of_bytes false None 0 strays_and_cuts ≡
@@ -97,8 +101,8 @@ pub fn strays_and_cuts_are_listed()
         ∷ [] }
 {}
 
-/// What is cut is listed before what cuts it, in the group of the option; a message or an exclusive that is
-/// open at the end is listed with its start.
+/// Proves rows: a message that is cut off is listed before the byte that cuts it off, in the group of the
+/// option. A message or an exclusive that is open at the end is listed with the offset of its start.
 pub fn cuts_come_before_what_cuts()
     ensures order { listing_of_bytes false None 2 cuts_by_stray_bytes ≡
         record { offset = 0; group = Some 2; kind = kinds.CutMessage }
@@ -112,8 +116,8 @@ pub fn cuts_come_before_what_cuts()
         record { offset = 1; group = Some 0; kind = kinds.OpenExclusive } ∷ [] }
 {}
 
-/// A data increment is refused at the byte that completes it, an
-/// exclusive at the byte that exceeds its limit.
+/// Proves rows: a data increment is refused at the byte that completes it, and an exclusive at the byte
+/// that exceeds its limit.
 pub fn steps_and_long_exclusives_are_refused()
     ensures increment { refusal_up None (reverse (0xb0 ∷ 0x60 ∷ [])) 0 ≡ Some bad.DataIncrement }
     ensures too_long { refusal_up (Some 6) (reverse (0xf0 ∷ 1 ∷ 2 ∷ 3 ∷ 4 ∷ 5 ∷ 6 ∷ [])) 7 ≡

@@ -1,5 +1,5 @@
-//! Translates between Universal MIDI Packets and MIDI 1.0 streams, and shows both: `run` over the process's
-//! own words, input, folder, output, notes and files.
+//! Runs the program with the process's own arguments, input, folder, output, notes and files: translates
+//! between Universal MIDI Packets and MIDI 1.0 streams, and shows both.
 #![tactic(auto)]
 
 use midi_commands::{finish, run, unread_words};
@@ -10,17 +10,17 @@ use std::io::{ErrorKind, Stdin};
 use std::process::ExitCode;
 use std::{env, io};
 
-// The words of the command line, without the program's name.
+// Returns the arguments of the command line, without the program's name.
 fn words(rt: &HostRuntime) -> io::Result<Vec<String>> {
     Ok(env::args(rt)?.skip(1).collect(rt.alloc())?)
 }
 
-// The root of the files, if it can be opened.
+// Opens the root of the files, if that is possible.
 fn open_root(rt: &HostRuntime) -> Option<File> {
     File::open(rt, "/").ok()
 }
 
-// Standard input, of which a read may wait, unless it is a file.
+// Opens standard input. A read of it may wait, unless it is a file.
 fn open_input(rt: &HostRuntime) -> Result<BufferedSource<Stdin>, NoMemory> {
     match fs::metadata(rt, "/dev/stdin") {
         Ok(about) if about.is_file() => BufferedSource::of_file(rt.alloc(), rt.stdin()),
@@ -29,8 +29,8 @@ fn open_input(rt: &HostRuntime) -> Result<BufferedSource<Stdin>, NoMemory> {
 }
 
 fn main(rt: HostRuntime) -> io::Result<ExitCode> {
-    // A folder that is open can be neither read nor written. If standard streams are closed, these take
-    // their numbers, so that such a stream fails, and no file of a lane stands in its place.
+    // An open folder can be neither read nor written. If standard streams are closed, these folders get their
+    // numbers. Then any use of such a stream fails, and no output file can be opened in its place.
     let _in_place_of_closed = [open_root(&rt), open_root(&rt), open_root(&rt)];
     let alloc = rt.alloc();
     let mut lanes = FolderLanes::new(rt.clone()?);

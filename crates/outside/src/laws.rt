@@ -1,13 +1,14 @@
-// What is true of everything that an object outside the program shows.
+// Laws that hold for every object outside the program.
 ghost use Rattle.std.specs.Prelude.{ℕ, List};
 ghost use Rattle.outside.specs.Runs.{RunsAreGainedAsOne, RunsAreLostAsOne};
 
-/// Runs of bytes that are lost one after the other are lost as one.
+/// Proves that two runs of bytes, lost one after the other, are lost as a single run.
 pub fn runs_are_lost_as_one()
     ensures { RunsAreLostAsOne }
 {}
 
-/// Runs of bytes, and of pairs of a lane and a piece, that are gained one after the other are gained as one.
+/// Proves that two runs, gained one after the other, are gained as a single run. It holds for bytes, and
+/// for pairs of a lane and a piece.
 pub fn runs_are_gained_as_one()
     ensures bytes { RunsAreGainedAsOne ℕ }
     ensures pairs { RunsAreGainedAsOne (ℕ × List ℕ) }

@@ -23,14 +23,14 @@ use outside::Source;
 use pass_loop::{Found, Items, LIMIT, More};
 use ump_words::{Framed, Order, Packets, WordReader, Words};
 
-/// Gives out the packets of a recording, as their words.
+/// Returns the packets of a recording as their words.
 #[derive(Drop)]
 pub struct EncodedReader {
     words: WordReader,
 }
 
 impl EncodedReader {
-    /// A reader of words in this order (M2-104-UM, message types).
+    /// Creates a reader of words in this byte order (M2-104-UM, message types).
     pub fn new(order: Order) -> EncodedReader
         ensures { result.words ≡ new_words order }
     {
@@ -40,9 +40,9 @@ impl EncodedReader {
     }
 }
 
-// The packet at a place of the bytes in the reader, if its first two words show that they, or the first of
-// them alone, are the whole packet. Most packets are such, so that the place of the next one needs no table
-// of lengths. `None` exactly for other bytes.
+// Returns the packet at a position in the reader's bytes, if its first two words show that the packet is
+// these two words or the first alone. Most packets are of these kinds, so finding the next packet needs no
+// table of lengths. Returns `None` exactly for other bytes.
 #[inline(always)]
 fn known_in(
     words: &WordReader,
@@ -80,7 +80,7 @@ fn known_in(
     }
 }
 
-// What the words of one packet are read into, before the place at which the next ones begin.
+// Reads the words of one packet. `next` is the position at which the next words begin.
 #[inline(always)]
 fn read_words(framed: Framed, next: usize) -> Found<Framed, EncodedPacket>
     requires { IsWhole framed.words }

@@ -1,4 +1,4 @@
-// The answer if no packet comes.
+// The result if there is no packet.
 ghost use Rattle.std.specs.Prelude.{◌≡◌};
 ghost use Rattle.packet_input.specs.Packets.{next_of_stop, reason_for, refusal_of_stop};
 
@@ -7,7 +7,7 @@ use pass_loop::{LIMIT, Next, Reason};
 use ump_grammar::Bad;
 use ump_words::Framed;
 
-/// The reason for words that are refused (M2-104-UM, message types).
+/// Returns the reason for words that are refused (M2-104-UM, message types).
 #[inline(always)]
 pub(crate) fn reason_of(bad: Bad) -> Reason
     ensures { result ≡ reason_for bad }
@@ -18,21 +18,22 @@ pub(crate) fn reason_of(bad: Bad) -> Reason
     }
 }
 
-/// The refusal for a word stream that ended with `stop`, where `before` is the number of input bytes before
-/// the first word. `None` if a read failed.
+/// Returns the refusal for a word stream that ended with `stop`, where `before` is the number of input bytes
+/// before the first word. Returns `None` if a read failed.
 #[inline(always)]
 pub(crate) fn refusal_of(stop: ReadStop, before: u64) -> Option<(Reason, u64)>
     ensures { result ≡ refusal_of_stop before stop }
 {
     match stop {
         ReadStop::Read(_) => None,
-        // Both are within the limit, so that the sum is never cut.
+        // Both are within the limit, so the sum never overflows.
         ReadStop::Truncated(at) => Some((Reason::Truncated, at.wrapping_add(before))),
         ReadStop::TooLong => Some((Reason::InputTooLong, LIMIT)),
     }
 }
 
-/// The answer if the words stop, in an input that has so many bytes before the first word.
+/// Returns the result for a word stream that ended with `stop`, where `before` is the number of input bytes
+/// before the first word.
 #[inline(always)]
 pub(crate) fn stopped<P>(stop: ReadStop, before: u64) -> Next<Framed, P>
     ensures { result ≡ next_of_stop before stop }

@@ -1,4 +1,4 @@
-// What holds of all inputs that are cut into packets.
+// Laws that hold for all inputs that are cut into packets.
 ghost use Rattle.std.specs.Prelude.{ℕ};
 ghost use Rattle.pass_loop.specs.Pass.{CutsOnce};
 ghost use Rattle.packet_input.specs.Packets.{packets_behind};

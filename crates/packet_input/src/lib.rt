@@ -1,5 +1,8 @@
-//! An input cut into the packets that its words spell, a recording from its start or a file after its first
-//! bytes; and the words of a packet in the output.
+//! Cuts an input into the packets that its words spell, for a recording from its start or for a file after
+//! its first bytes, and writes the words of packets to the output.
+//!
+//! Start with [`PacketReader`], which returns decoded packets, or with the faster [`EncodedReader`], which
+//! returns packets as the words that encode them. `pass_loop::drive` takes either.
 #![tactic(auto)]
 
 mod encoded;

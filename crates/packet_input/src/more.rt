@@ -1,4 +1,4 @@
-// More of the words of a recording.
+// Reads more of the words of a recording.
 ghost use Rattle.std.specs.Prelude.{◌≡◌, ◌-◌, ℕ, List, Option};
 ghost use Rattle.item_reader.specs.SoFar.{given};
 ghost use Rattle.pass_loop.specs.Next.{GivesMore, MoreCause};
@@ -14,7 +14,7 @@ use pass_loop::More;
 use ump_words::{Framed, Packets, WordReader};
 
 /// Reads until the words of a whole packet are held (M2-104-UM, message types). After `More::Failed` no byte
-/// is lost, and a later call goes on from there.
+/// is lost, and a later call continues from there.
 #[inline(always)]
 pub(crate) fn more_words<S: Source>(words: &mut WordReader, input: &mut S) -> More
     ensures answer { (order : Order) (all : Option (List ℕ)) (items : List (Framed × Packet)) →

@@ -23,10 +23,11 @@ use pass_loop::{Found, Items, LIMIT, More, Next};
 use ump_grammar::{Packet, decode};
 use ump_words::{Framed, Order, Packets, WordReader};
 
-/// The next packet (M2-104-UM, message types) of an input in which `before` bytes stand before the first
-/// word. They count in each offset and in the limit of the whole input, 4,294,967,296 bytes (own rule): so
-/// the reader is one that `WordReader::new(order, LIMIT - before)` gave, from which only this call has read,
-/// and which has not ended. After `Next::Failed` no byte is lost, and a later call goes on from there.
+/// Returns the next packet (M2-104-UM, message types) of an input that has `before` bytes before the first
+/// word. These bytes count in each offset and in the limit of the whole input, 4,294,967,296 bytes (own
+/// rule). So the reader must be one that `WordReader::new(order, LIMIT - before)` returned, from which only
+/// this call has read, and which has not ended. After `Next::Failed` no byte is lost, and a later call
+/// continues from there.
 #[inline(always)]
 pub fn next_packet<S: Source>(
     words: &mut WordReader,
@@ -39,7 +40,7 @@ pub fn next_packet<S: Source>(
     items_are_read_in_order::<Packets, Framed>();
     match words.next(input) {
         Ok(Some(mut framed)) => {
-            // Both are within the limit, so that the sum is never cut.
+            // Both are within the limit, so the sum never overflows.
             framed.offset = framed.offset.wrapping_add(before);
             match decode(&framed) {
                 Ok(packet) => Next::Item {
@@ -57,14 +58,14 @@ pub fn next_packet<S: Source>(
     }
 }
 
-/// Gives out the packets of a recording.
+/// Returns the packets of a recording, decoded.
 #[derive(Drop)]
 pub struct PacketReader {
     words: WordReader,
 }
 
 impl PacketReader {
-    /// A reader of words in this order (M2-104-UM, message types).
+    /// Creates a reader of words in this byte order (M2-104-UM, message types).
     pub fn new(order: Order) -> PacketReader
         ensures { result.words ≡ new_words order }
     {
@@ -74,7 +75,7 @@ impl PacketReader {
     }
 }
 
-// What the words of one packet are read into, before the place at which the next ones begin.
+// Reads the words of one packet. `next` is the position at which the next words begin.
 #[inline(always)]
 fn read_words(framed: Framed, next: usize) -> Found<Framed, Packet>
     requires { IsWhole framed.words }

@@ -1,4 +1,4 @@
-// The words of a packet in the output.
+// Writes the words of a packet.
 ghost use Rattle.std.specs.Prelude.{◌≤◌, ◌<◌, [], ◌∷◌, length};
 ghost use Rattle.std.specs.List.{flat_map};
 ghost use Rattle.pass_loop.specs.Places.{Puts};
@@ -8,8 +8,8 @@ ghost use Rattle.packet_words.specs.Words.{word_bytes};
 use packet_words::{Order, pair_bytes, write_words};
 use pass_loop::{Outputs, RunEnd};
 
-/// Puts the words of one packet in the output, in this order of their bytes. An `Err` is
-/// `OutputFault`, and comes only if the count of the output's faults rose.
+/// Writes the words of one packet to the output, in this byte order. The error is always `OutputFault`, and
+/// is returned only if the output's count of faults rose.
 #[inline(always)]
 pub fn put_encoded<O: Outputs>(words: &[u32], order: Order, outputs: &mut O) -> Result<(), RunEnd>
     requires some { 0 < length words.now }

@@ -7,7 +7,7 @@ use small_types::ShortList;
 use std::fmt;
 use std::marker::Model;
 
-/// The order of the bytes of a word.
+/// The byte order of a word.
 #[derive(Clone, Copy, Debug, PartialEq, Eq)]
 pub enum Order {
     /// The most significant byte first.
@@ -16,7 +16,7 @@ pub enum Order {
     Little,
 }
 
-/// One to four words of 32 bits. A contract sees it as the list of the words.
+/// One to four words of 32 bits. In contracts its value is the list of the words.
 #[derive(Drop)]
 pub struct Words {
     cells: [u32; 4],
@@ -34,7 +34,7 @@ impl Model for Words {
 }
 
 impl Words {
-    /// These words, one to four.
+    /// Creates the value from one to four words.
     pub fn from_slice(words: &[u32]) -> Self
         requires { (0 < length words.now) × (length words.now ≤ 4) }
         ensures { result ≡ words.now }
@@ -52,7 +52,7 @@ impl Words {
         }
     }
 
-    /// These two words.
+    /// Creates the value from two words.
     #[inline(always)]
     pub fn of_two(first: u32, second: u32) -> Self
         ensures { result ≡ first ∷ second ∷ [] }
@@ -63,7 +63,7 @@ impl Words {
         }
     }
 
-    /// The words, one to four.
+    /// Returns the words, one to four.
     #[inline]
     pub fn as_slice(&self) -> &[u32]
         ensures words { result.now ≡ self.now }
@@ -72,7 +72,7 @@ impl Words {
         &self.cells[..self.count]
     }
 
-    /// A copy of the words. Unlike `clone`, it cannot fail.
+    /// Returns a copy of the words. Unlike `clone`, it can't fail.
     #[inline]
     pub fn copied(&self) -> Self
         ensures { result ≡ self.now }
@@ -110,19 +110,19 @@ impl fmt::Debug for Words {
     }
 }
 
-/// The words of a packet, and its offset.
+/// The words of a packet, with the packet's offset.
 #[derive(Debug, Drop)]
 pub struct Framed {
-    /// The number of bytes before it.
+    /// The number of bytes before the packet.
     pub offset: u64,
-    /// Its words, in the number that the message type of the first one requires.
+    /// The words of the packet. The message type of the first one determines how many there are.
     pub words: Words,
 }
 
-// How many words a packet of each message type has.
+// The number of words of a packet, by message type.
 const WORD_COUNTS: [usize; 16] = [1, 1, 1, 2, 2, 4, 1, 1, 2, 2, 2, 3, 3, 4, 4, 4];
 
-/// How many words a packet that begins with this one has, 1 to 4 (M2-104-UM, message types).
+/// Returns the number of words, 1 to 4, of a packet that begins with this word (M2-104-UM, message types).
 #[inline]
 pub fn words_in_packet(first: u32) -> usize
     ensures count { result ≡ words_asked first }
@@ -131,7 +131,7 @@ pub fn words_in_packet(first: u32) -> usize
     WORD_COUNTS[(first >> 28) as usize]
 }
 
-/// The word at index `i`.
+/// Returns word number `i` of these bytes, counted from 0.
 #[inline]
 pub fn word_in(order: Order, bytes: &[u8], i: usize) -> u32
     requires { 4 * i + 4 ≤ length bytes.now }
@@ -144,7 +144,7 @@ pub fn word_in(order: Order, bytes: &[u8], i: usize) -> u32
     }
 }
 
-/// The words of the bytes of one packet.
+/// Returns the words of one packet from its bytes.
 #[inline]
 pub fn words_in(order: Order, bytes: &[u8]) -> Words
     requires { IsPacket order bytes.now }
@@ -166,7 +166,7 @@ pub fn words_in(order: Order, bytes: &[u8]) -> Words
     Words { cells, count }
 }
 
-// The bytes of a word.
+// Returns the bytes of a word.
 #[inline(always)]
 fn word_bytes(word: u32, order: Order) -> [u8; 4]
     ensures { result ≡ word_bytes order word }
@@ -179,7 +179,7 @@ fn word_bytes(word: u32, order: Order) -> [u8; 4]
     bytes
 }
 
-/// The bytes of these words, at most four, one word after the other.
+/// Returns the bytes of at most four words, one word after the other.
 #[inline(always)]
 pub fn write_words(words: &[u32], order: Order) -> ShortList<u8, 16>
     requires { length words.now ≤ 4 }
@@ -193,7 +193,7 @@ pub fn write_words(words: &[u32], order: Order) -> ShortList<u8, 16>
     bytes
 }
 
-/// The bytes of two words, one word after the other.
+/// Returns the bytes of two words, one word after the other.
 #[inline(always)]
 pub fn pair_bytes(first: u32, second: u32, order: Order) -> [u8; 8]
     ensures { result ≡ flat_map (word_bytes order) (first ∷ second ∷ []) }

@@ -1,22 +1,22 @@
-// The answer to a control change.
+// The result of a control change.
 use voice_messages::{Param, U7, U14};
 
-/// The collector's answer to a control change (MIDI 1.0 Detailed Specification, control change).
+/// The collector's result for a control change (MIDI 1.0 Detailed Specification, control change).
 #[derive(Clone, Copy, Debug, PartialEq, Eq)]
 pub enum Collected {
-    /// A data increment, 96, which changes nothing.
+    /// A data increment, 96. It changes nothing.
     DataIncrement,
-    /// A data decrement, 97, which changes nothing.
+    /// A data decrement, 97. It changes nothing.
     DataDecrement,
-    /// A half of a bank or of a parameter's number, 0, 32 or 98 to 101. It is kept for the message that
-    /// uses it.
+    /// Half of a bank or of a parameter number: 0, 32 or 98 to 101. It is stored for the message that uses
+    /// it.
     Held,
     /// A data entry, 6 or 38: the selected parameter and its new value of 14 bits.
     Set(Param, U14),
-    /// A data entry, 6 or 38, if no parameter is selected.
+    /// A data entry, 6 or 38, but no parameter is selected.
     Ignored,
     /// An MSB or LSB of a controller, 1 to 31 or 33 to 63, except for 6 and 38, if controllers are paired
-    /// (own rule): the index of its MSB, and the controller's new value of 14 bits.
+    /// (own rule). It has the index of the MSB, and the controller's new value of 14 bits.
     Pair(U7, U14),
     /// Any other control change.
     Plain,

@@ -31,10 +31,10 @@ use std::alloc::Global;
 use std::marker::Model;
 use voice_messages::{Bank, Param, U7, U14};
 
-/// What the control changes of a MIDI 1.0 stream have set: for each of sixteen channels the halves of the
-/// bank and of the two parameter numbers, and for each parameter the MSB of its value. If controllers are
-/// paired (own rule), also the MSB of each pair. A contract sees these registers and MSBs, and whether
-/// controllers are paired.
+/// The values that the control changes of a MIDI 1.0 stream have set. For each of sixteen channels, these
+/// are the halves of the bank and of the two parameter numbers, and the MSB of each parameter's value. If
+/// controllers are paired (own rule), they include the MSB of each pair. In contracts its value is these
+/// registers and MSBs, and whether controllers are paired.
 #[derive(Drop)]
 pub struct Collector {
     registers: Vec<Registers>,
@@ -60,7 +60,7 @@ impl Model for Collector {
         (c.paired ≡ true → length c.pairs ≡ 512) × (c.paired ≡ false → length c.pairs ≡ 0) };
 }
 
-// A value of fourteen bits by its halves.
+// Returns the value of fourteen bits with these halves.
 fn of_halves(msb: U7, lsb: U7) -> U14
     ensures value { result ≡ msb * 128 + lsb }
     ensures msb_below { msb < 128 }
@@ -70,7 +70,7 @@ fn of_halves(msb: U7, lsb: U7) -> U14
     U14::low_bits(msb as u32 * 128 + lsb as u32)
 }
 
-// Sets no half of any of these registers.
+// Unsets every half of these registers.
 fn unset_all(channels: &mut [Registers])
     ensures { channels.new ≡ replicate (length channels.old) unset_registers }
 {
@@ -80,10 +80,10 @@ fn unset_all(channels: &mut [Registers])
 }
 
 impl Collector {
-    /// A collector for a stream that has had no byte yet: no half of a register is set, and no parameter or
-    /// controller has a value. If controllers are paired (own rule), the MSB and the LSB of a controller
-    /// are one value of 14 bits. Takes all memory that the collector ever needs, a little more than 512
-    /// KiB; `NoMemory` if there isn't that much.
+    /// Creates a collector for a stream before its first byte: no half of a register is set, and no
+    /// parameter or controller has a value. If controllers are paired (own rule), the MSB and the LSB of a
+    /// controller are one value of 14 bits. Allocates all the memory that the collector will ever need, a
+    /// little more than 512 KiB. Returns `NoMemory` if the memory can't be allocated.
     pub fn new(alloc: Global, paired: bool) -> Result<Collector, NoMemory>
         ensures fresh { IfOk result (λ collector. collector ≡ fresh paired) }
         ensures holding { IfOk result IsHolding }
@@ -107,8 +107,8 @@ impl Collector {
         })
     }
 
-    /// Forgets what control changes have set: the collector equals a new one, with controllers paired or
-    /// not as before (own rule). Takes no memory.
+    /// Forgets everything that control changes have set: the collector equals a new one, with controllers
+    /// paired or not as before (own rule). Allocates no memory.
     pub fn reset(&mut self)
         ensures fresh { self.new ≡ fresh self.old.paired }
         ensures holding { IsHolding self.new }
@@ -119,10 +119,10 @@ impl Collector {
         self.pairs.clear();
     }
 
-    /// Takes one control change (MIDI 1.0 Detailed Specification, control change, bank select, registered
-    /// and non-registered parameter numbers), and returns what it amounts to. A new value has 14 bits: an
-    /// MSB clears the LSB, and an LSB keeps the MSB. Control change 121 also sets both parameter numbers to
-    /// 127/127 (RP-015). After `DataIncrement`, `DataDecrement` and `Ignored` nothing is changed.
+    /// Applies one control change (MIDI 1.0 Detailed Specification, control change, bank select, registered
+    /// and non-registered parameter numbers), and returns its result. A new value has 14 bits: an MSB
+    /// clears the LSB, and an LSB keeps the MSB. Control change 121 also sets both parameter numbers to
+    /// 127/127 (RP-015). After `DataIncrement`, `DataDecrement` and `Ignored` nothing has changed.
     #[inline(always)]
     pub fn control(&mut self, channel: U4, index: U7, value: U7) -> Collected
         ensures answer { result ≡
@@ -138,8 +138,8 @@ impl Collector {
         self.act(channel, role, index, value)
     }
 
-    // Takes a control change by its role. Roles of pairs count only if controllers are paired, which is
-    // asked last.
+    // Applies a control change by its role. Roles of pairs count only if controllers are paired, which is
+    // tested last.
     #[inline(always)]
     fn act(&mut self, channel: U4, role: ControlRole, index: U7, value: U7) -> Collected
         ensures answer { result ≡
@@ -179,7 +179,7 @@ impl Collector {
         }
     }
 
-    // Reset all controllers (RP-015).
+    // Applies Reset All Controllers (RP-015).
     fn reset_all_controllers(&mut self, channel: U4)
         ensures after { self.new ≡ with_reset channel self.old }
         ensures channel_below { channel < 16 }
@@ -189,7 +189,7 @@ impl Collector {
         self.pairs.set(channel, U7::low_bits(1), U7::low_bits(0));
     }
 
-    // The channel's registers take a control change that is no data entry.
+    // Updates the channel's registers for a control change that isn't a data entry.
     #[inline(always)]
     fn take(&mut self, channel: U4, role: ControlRole, value: U7)
         ensures after { self.new ≡ at_registers channel (registers_after (role_in role) value) self.old }
@@ -198,7 +198,7 @@ impl Collector {
         registers.take(role, value);
     }
 
-    // The parameter that a data entry of the channel sets.
+    // Returns the parameter that a data entry of the channel sets.
     fn selected(&self, channel: U4) -> Option<Param>
         ensures param { result ≡ selected (registers_at self.now channel) }
         ensures in_range { IfSome result IsParam }
@@ -207,7 +207,7 @@ impl Collector {
         self.registers[channel.get() as usize].selected()
     }
 
-    // A data entry of the MSB, after which the LSB is 0.
+    // Applies a data entry of the MSB, which sets the LSB to 0.
     fn enter_msb(&mut self, channel: U4, value: U7) -> Collected
         ensures answer { result ≡
             entered (selected (registers_at self.old channel)) (λ param. value * 128) }
@@ -225,7 +225,7 @@ impl Collector {
         }
     }
 
-    // A data entry of the LSB, which keeps the MSB of its parameter.
+    // Applies a data entry of the LSB, which keeps the MSB of its parameter.
     fn enter_lsb(&self, channel: U4, value: U7) -> Collected
         ensures answer { result ≡ entered (selected (registers_at self.now channel))
             (λ param. msb_at self.now channel param * 128 + value) }
@@ -240,7 +240,7 @@ impl Collector {
         }
     }
 
-    // The MSB of a pair, after which the LSB is 0.
+    // Applies the MSB of a pair, which sets the LSB to 0.
     fn enter_coarse(&mut self, channel: U4, index: U7, value: U7) -> Collected
         ensures answer { result ≡ answer_of coarse self.old channel index value }
         ensures after { self.new ≡ holding_after coarse self.old channel index value }
@@ -250,7 +250,7 @@ impl Collector {
         Collected::Pair(index, of_halves(value, U7::low_bits(0)))
     }
 
-    // The LSB of a pair, which keeps the MSB. Its index is higher by 32.
+    // Applies the LSB of a pair, which keeps the MSB. Its index is higher by 32.
     fn enter_fine(&self, channel: U4, index: U7, value: U7) -> Collected
         ensures answer { result ≡ answer_of fine self.now channel index value }
         ensures in_range { (channel < 16) × (value < 128) }
@@ -260,8 +260,8 @@ impl Collector {
         Collected::Pair(coarse, of_halves(msb, value))
     }
 
-    /// Returns the bank that a program change would take now (MIDI 1.0 Detailed Specification, bank
-    /// select): an unset half is 0. `None` exactly if neither half was set.
+    /// Returns the bank for a program change that would come now (MIDI 1.0 Detailed Specification, bank
+    /// select). An unset half is 0. `None` exactly if neither half was set.
     pub fn program(&self, channel: U4) -> Option<Bank>
         ensures exact { result ≡ bank_of (registers_at self.now channel) }
         ensures meant { (group : GroupState) → Keeps self.now group →

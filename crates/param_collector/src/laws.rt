@@ -1,4 +1,4 @@
-// What holds of all collectors.
+// Laws that hold for all collectors.
 ghost use Rattle.std.specs.Prelude.{◌≡◌, ℕ, false};
 ghost use Rattle.midi1_bytes.specs.Messages.{Message};
 ghost use Rattle.midi_meaning.specs.Controllers.{Role, pairing, role_of};
@@ -9,9 +9,9 @@ ghost use Rattle.param_collector.specs.Control.{answer_of, holding_after, AreInR
 ghost use Rattle.param_collector.specs.Holding.{Holding, IsHolding, registers_at};
 ghost use Rattle.param_collector.specs.Keeps.{IsMeant, Keeps, is_control_change};
 
-/// A collector answers a control change as the meaning of MIDI 1.0 does. If its registers and MSBs match a
-/// state before the control change, they match the next state after it. Whether controllers are paired
-/// never changes.
+/// Proves that a collector's result for a control change is the one in the meaning of MIDI 1.0. If its
+/// registers and MSBs match a state before the control change, they match the next state after it. Whether
+/// controllers are paired never changes.
 pub fn control_changes_are_kept()
     ensures meant { (holding : Holding) (channel index value : ℕ) → IsHolding holding →
         AreInRange channel (selected (registers_at holding channel)) value →
@@ -25,7 +25,8 @@ pub fn control_changes_are_kept()
         (holding_after role holding channel index value).paired ≡ holding.paired }
 {}
 
-/// A message other than a control change leaves the registers and values that a collector keeps.
+/// Proves that a message other than a control change leaves the registers and values of a collector
+/// unchanged.
 pub fn other_messages_change_nothing_kept()
     ensures { (holding : Holding) (group : GroupState) (message : Message) →
         is_control_change message ≡ false → Keeps holding group →

@@ -1,5 +1,8 @@
-//! Tracks the banks and parameters that a MIDI 1.0 stream has set so far, and says what each control change
-//! amounts to.
+//! Tracks the banks and parameters that a MIDI 1.0 stream has set, and returns the result of each control
+//! change.
+//!
+//! Start with [`Collector`]: `new` allocates, and `control` applies one control change and returns a
+//! [`Collected`].
 #![tactic(auto)]
 
 pub mod collected;

@@ -10,7 +10,7 @@ use voice_messages::{Param, ParamKind, U7};
 // Sixteen channels, two kinds, and 128 * 128 numbers.
 const SIZE: usize = 524288;
 
-// The place of a parameter's MSB.
+// Returns the index of a parameter's MSB in the table.
 fn place_of(channel: U4, param: &Param) -> usize
     ensures place { result ≡ place_of channel param.now }
     ensures within { result < 524288 }
@@ -33,7 +33,8 @@ pub(crate) fn zeros(alloc: Global, count: usize) -> Result<Vec<U7>, NoMemory>
     }
 }
 
-/// The MSBs of the parameters of all channels, 0 if none was set. A contract sees it as the table of them.
+/// The MSBs of the parameters of all channels, 0 if none was set. In contracts its value is the table of
+/// them.
 #[derive(Drop)]
 pub(crate) struct Msbs {
     table: Vec<U7>,
@@ -52,7 +53,8 @@ impl Model for Msbs {
 impl Msbs {
     ghost use Rattle.std.specs.Prelude.{slice_index_or, slice_set};
 
-    /// No parameter has an MSB yet. `NoMemory` when there is none for the table.
+    /// Creates a table in which no parameter has an MSB. Returns `NoMemory` if the memory can't be
+    /// allocated.
     #[tactic(auto, using(crate::proofs::Meaning::length_zeros))]
     pub(crate) fn new(alloc: Global) -> Result<Msbs, NoMemory>
         ensures table { IfOk result (λ msbs. msbs ≡ zeros 524288) }
@@ -62,14 +64,14 @@ impl Msbs {
         Ok(Msbs { table })
     }
 
-    /// No parameter has an MSB any more.
+    /// Clears the MSBs of all parameters.
     pub(crate) fn clear(&mut self)
         ensures { self.new ≡ zeros 524288 }
     {
         self.table.fill(U7::low_bits(0));
     }
 
-    /// The MSB of a parameter.
+    /// Returns the MSB of a parameter.
     pub(crate) fn get(&self, channel: U4, param: &Param) -> U7
         ensures { result ≡ slice_index_or self.now (place_of channel param.now) 0 }
     {

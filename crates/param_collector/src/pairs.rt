@@ -12,15 +12,15 @@ use voice_messages::U7;
 // Sixteen channels, and the indexes of 32 MSBs.
 const SIZE: usize = 512;
 
-// The place of a pair's MSB, by its index.
+// Returns the index of a pair's MSB in the table.
 fn pair_place(channel: U4, index: U7) -> usize
     ensures place { result ≡ pair_place channel index }
 {
     channel.get() as usize * 32 + index.get() as usize
 }
 
-/// The MSBs of the paired controllers of all channels, 0 if none was set; none if controllers aren't
-/// paired. A contract sees it as the table of them.
+/// The MSBs of the paired controllers of all channels, 0 if none was set. The table is empty if controllers
+/// aren't paired. In contracts its value is the table.
 #[derive(Drop)]
 pub(crate) struct PairMsbs {
     table: Vec<U7>,
@@ -37,7 +37,8 @@ impl Model for PairMsbs {
 impl PairMsbs {
     ghost use Rattle.std.specs.Prelude.{slice_index_or, slice_set};
 
-    /// No controller has an MSB yet. `NoMemory` when there is none for the table.
+    /// Creates a table in which no controller has an MSB. Returns `NoMemory` if the memory can't be
+    /// allocated.
     #[tactic(auto, using(crate::proofs::Meaning::length_zeros))]
     pub(crate) fn new(alloc: Global, paired: bool) -> Result<PairMsbs, NoMemory>
         ensures table { IfOk result (λ msbs. msbs ≡ zeros (pair_count paired)) }
@@ -49,14 +50,14 @@ impl PairMsbs {
         Ok(PairMsbs { table })
     }
 
-    /// No controller has an MSB any more.
+    /// Clears the MSBs of all controllers.
     pub(crate) fn clear(&mut self)
         ensures { self.new ≡ zeros (length self.old) }
     {
         self.table.fill(U7::low_bits(0));
     }
 
-    /// The MSB of a pair, by its index.
+    /// Returns the MSB of a pair, by its index.
     pub(crate) fn get(&self, channel: U4, index: U7) -> U7
         ensures { result ≡ slice_index_or self.now (pair_place channel index) 0 }
     {

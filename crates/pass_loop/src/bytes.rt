@@ -69,7 +69,8 @@ impl Items<u64, u8> for ByteReader {
                 reason: Reason::InputTooLong,
                 offset: LIMIT,
             },
-            // A byte is whole, so the end of the input cuts none off: a read that stops here failed.
+            // A single byte is always whole, so the end of the input can't cut one off: if a read stops here,
+            // it failed.
             Err(ReadStop::Read(_) | ReadStop::Truncated(_)) => More::Failed,
         }
     }

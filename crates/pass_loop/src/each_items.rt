@@ -1,4 +1,4 @@
-// The items of a stream, one by one, each after its offset.
+// The items of a stream, one by one, each with its offset.
 ghost use Rattle.std.specs.Prelude.{◌≡◌, ◌<◌, ◌≤◌, ◌-◌, ℕ, IfSome, List, Option, None, drop, length};
 ghost use Rattle.outside.specs.Outside.{ahead};
 ghost use Rattle.item_reader.specs.Reading.{held_bytes, new_reading, passed};
@@ -16,8 +16,8 @@ use item_reader::{Cut, ItemReader};
 use outside::{ReadStop, Source};
 use std::marker::Model;
 
-/// Gives out the items of a stream that is cut in some way, each
-/// after its offset. To a contract it is its `Reading`.
+/// Returns the items of a stream that is cut as `how` says, each with its offset. In contracts its value is
+/// the `Reading`.
 #[derive(Drop)]
 pub struct EachItems<H> {
     reader: ItemReader<H>,
@@ -32,7 +32,7 @@ impl<H> Model for EachItems<H> {
 }
 
 impl<H: Cut> EachItems<H> {
-    /// A reader that has read nothing of a stream that is cut so.
+    /// Creates a reader that has read nothing, for a stream that is cut as `how` says.
     pub fn new(how: H) -> Self
         ensures { result ≡ new_reading how limit }
     {

@@ -1,4 +1,4 @@
-// The work on the items that a reader holds.
+// Processes the items that a reader holds.
 ghost use Rattle.std.specs.Prelude.{◌≡◌, ℕ, List, length, true};
 ghost use Rattle.pass_loop.specs.ForProofs.HeldLaws.{IsUnderWay, StaysUnderWay, TakesHeld};
 
@@ -6,9 +6,9 @@ use crate::ends::RunEnd;
 use crate::outputs::Outputs;
 use crate::pass::{Engine, Found, Items};
 
-/// A way to do the work on the items that a reader holds.
+/// A way to process the items that a reader holds.
 pub(crate) trait Taking<A, I, R: Items<A, I>, E: Engine<A, I>> {
-    /// Does the work on each whole item that is held, and returns the number of their bytes.
+    /// Processes each whole item that the reader holds, and returns the number of their bytes.
     fn take_held<O: Outputs>(
         &self,
         reader: &R,
@@ -26,7 +26,7 @@ pub(crate) trait Taking<A, I, R: Items<A, I>, E: Engine<A, I>> {
             engine.old engine.new (O.places outputs.old) (O.places outputs.new) result };
 }
 
-/// By a step for each.
+/// Processes items one by one, with a step for each.
 pub(crate) struct OneByOne;
 
 impl<A: Drop, I: Drop, R: Items<A, I>, E: Engine<A, I>> Taking<A, I, R, E> for OneByOne {

@@ -1,4 +1,4 @@
-// What holds of all inputs that are cut into items by their lengths.
+// Laws that hold for all inputs that are cut into items by their lengths.
 ghost use Rattle.std.specs.Prelude.{ℕ, List};
 ghost use Rattle.pass_loop.specs.Bytes.{byte_cutting};
 ghost use Rattle.pass_loop.specs.ItemLaws.{ItemsAreTakenInOrder};
@@ -7,8 +7,8 @@ ghost use Rattle.pass_loop.specs.Pass.{CutsOnce};
 
 use item_reader::{Cut, EachByte, items_are_read_in_order, streams_are_cut_once};
 
-/// A reader returns the items at the front of its input, in order, whatever their bytes are. At each end,
-/// they are the items that this end says.
+/// A reader returns the items at the front of its input, in order, whatever their bytes are. When it ends,
+/// the items that it has returned are those that this end says.
 pub fn items_are_taken_in_order<H: Cut, I>()
     ensures { (item_of : H → ℕ → List ℕ → I) → ItemsAreTakenInOrder H.asked item_of }
 {

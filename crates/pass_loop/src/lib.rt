@@ -1,5 +1,9 @@
-//! One pass over an input, said and proved once: what is read, what
-//! is put where, and what stands at each end.
+//! Runs one pass over an input. The loop is written and proved once for every pass: what it reads, what it
+//! writes to which place, and what has been written at each end.
+//!
+//! Start with [`drive`], which reads an input item by item. A pass gives it an [`Items`], which cuts the
+//! input into items, and an [`Engine`], whose `step` does the work on one item. [`RunEnd`] says how the run
+//! ended, and [`Outputs`] are the places that are written to.
 #![tactic(auto)]
 
 pub mod bytes;

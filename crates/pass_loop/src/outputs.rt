@@ -7,35 +7,36 @@ use crate::ends::RunEnd;
 use outside::{Lanes, Sink};
 use small_types::U4;
 
-/// The places of a pass: lanes, an output and notes.
+/// The places that a pass writes to: lanes, an output and notes.
 pub trait Outputs {
-    /// Their content, as far as a contract can see it, and their counts of faults.
+    /// The contents of the places, as far as contracts see them, and the counts of their faults.
     ghost places: { Self → Places };
 
-    /// Puts a piece, which isn't empty, in a lane, once the lanes are begun. An `Err` is `LaneFault`, and
-    /// comes only if the count of the lanes' faults rose. The lane has then gained nothing, or a front of
-    /// the piece that is neither empty nor all of it.
+    /// Writes a piece, which isn't empty, to a lane. The lanes must have been begun. The error is always
+    /// `LaneFault`, and is returned only if the lanes' count of faults rose. In that case the lane has gained
+    /// nothing, or a front of the piece that is neither empty nor the whole piece.
     fn put_lane(&mut self, lane: U4, piece: &[u8]) -> Result<(), RunEnd>
         requires begun { (places self.old).begun ≡ true }
         requires piece { 0 < length piece.now }
         ensures { Puts (in_lane lane piece.now ∷ []) (places self.old) (places self.new) result };
 
-    /// Puts text, which isn't empty, in the output. An `Err` is `OutputFault`, and comes only if the count
-    /// of the output's faults rose. The output has then gained at most a front of the text that isn't all
-    /// of it.
+    /// Writes text, which isn't empty, to the output. The error is always `OutputFault`, and is returned only
+    /// if the output's count of faults rose. In that case the output has gained at most a front of the text,
+    /// but not the whole text.
     fn put_output(&mut self, text: &[u8]) -> Result<(), RunEnd>
         requires { 0 < length text.now }
         ensures { Puts (in_output text.now ∷ []) (places self.old) (places self.new) result };
 
-    /// Puts text, which isn't empty, in the notes. An `Err` is `NoteFault`, and comes only if the count of
-    /// the notes' faults rose. The notes have then gained at most a front of the text that isn't all of it.
+    /// Writes text, which isn't empty, to the notes. The error is always `NoteFault`, and is returned only if
+    /// the notes' count of faults rose. In that case the notes have gained at most a front of the text, but
+    /// not the whole text.
     fn put_notes(&mut self, text: &[u8]) -> Result<(), RunEnd>
         requires { 0 < length text.now }
         ensures { Puts (in_notes text.now ∷ []) (places self.old) (places self.new) result };
 
-    /// Tries to write out what the lanes, the output and the notes have gathered, before the input is
-    /// waited for. It reports no fault: what it leaves stays gathered, and the next put that has to write
-    /// tries again.
+    /// Tries to write out what the lanes, the output and the notes have buffered. A pass calls it before it
+    /// waits for input. The call reports no fault: what it can't write stays buffered, and the next put to
+    /// that object fails and counts the fault.
     fn write_out(&mut self)
         ensures { places self.new ≡ places self.old };
 }

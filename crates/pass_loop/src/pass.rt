@@ -1,4 +1,4 @@
-// One loop for every pass.
+// The one loop that every pass uses.
 ghost use Rattle.std.specs.Prelude.{◌≡◌, ◌<◌, ◌≤◌, ℕ, IfOk, IfSome, List, [], ◌∷◌, None, Option, length, true};
 ghost use Rattle.item_reader.specs.SoFar.{Given, given};
 ghost use Rattle.pass_loop.specs.Named.{AreNamed};
@@ -15,75 +15,77 @@ use outside::{Lanes, Sink, Source};
 /// The next part of an input.
 #[derive(Debug, Drop)]
 pub enum Next<A, I> {
-    /// An item, and where it stands.
+    /// An item, and its position.
     Item { at: A, item: I },
-    /// The input ends with the last item.
+    /// The input ends after the last item.
     End,
-    /// What stands at this offset is refused.
+    /// The input is refused at this offset.
     Refused { reason: Reason, offset: u64 },
     /// A read failed.
     Failed,
 }
 
-/// What begins at a place of the bytes that a reader holds.
+/// What begins at a position of the bytes that a reader holds.
 #[derive(Debug, Drop)]
 pub enum Found<A, I> {
-    /// An item, where it stands, and the place at which the next one begins.
+    /// An item, its position, and the position at which the next item begins.
     Item { at: A, item: I, next: usize },
-    /// What stands at this offset is refused.
+    /// The input is refused at this offset.
     Refused { reason: Reason, offset: u64 },
 }
 
 /// The result of reading more of an input.
 #[derive(Clone, Copy, Debug, PartialEq, Eq)]
 pub enum More {
-    /// A whole item is held.
+    /// The reader holds a whole item.
     Held,
-    /// The input ends with the last item.
+    /// The input ends after the last item.
     End,
-    /// What stands at this offset is refused.
+    /// The input is refused at this offset.
     Refused { reason: Reason, offset: u64 },
     /// A read failed.
     Failed,
 }
 
-/// Cuts an input into items. It holds bytes that it has read. A loop goes over them with a place of its own,
-/// from item to item (`item_in`), tells the reader how many it has passed (`pass`), and has it read more
-/// (`more`).
+/// Cuts an input into items, and holds bytes that it has read. A loop goes over these bytes with its own
+/// position, from item to item (`item_in`), tells the reader how many bytes it has passed (`pass`), and lets
+/// the reader read more (`more`).
 pub trait Items<A, I> {
-    /// How an input is cut, by a new reader.
+    /// How a new reader cuts an input.
     ghost IsCut: { Self → Cutting (A × I) };
 
-    /// A reader that has read nothing.
+    /// The reader has read nothing.
     ghost IsNew: { Self → Type 0 };
 
-    /// The first reader, which was new, has become the second, and has given this.
+    /// The first reader was new, has become the second, and has returned these items.
     ghost HasGiven: { Self → Self → Given (A × I) → Type 0 };
 
-    /// What holds of an item after others, the newest first.
+    /// What holds of an item that comes after others, the newest first.
     ghost Promises: { List (A × I) → A × I → Type 0 };
 
-    /// How far the end may be.
+    /// How far away the end may be.
     ghost to_go: { Self → ℕ };
 
-    /// The bytes that are held and may be given out.
+    /// The bytes that the reader holds and may return as items.
     ghost held_bytes: { Self → List ℕ };
 
-    /// The offset of the first of them.
+    /// The offset of the first of these bytes.
     ghost first_offset: { Self → ℕ };
 
-    /// The reader after so many of them.
+    /// The reader after this many of the bytes are passed.
     ghost passed: { ℕ → Self → Self };
 
-    /// A whole item begins after so many of them.
+    /// A whole item begins after this many of the bytes.
     ghost IsHeld: { ℕ → Self → Type 0 };
 
-    /// The bytes that are held and may be given out, and the offset of the first of them.
+    /// Returns the bytes that the reader holds and may return as items, and the offset of the first of these
+    /// bytes.
     fn held(&self) -> (&[u8], u64)
         ensures bytes { result.0.now ≡ held_bytes self.now }
         ensures offset { result.1 ≡ first_offset self.now };
 
-    /// What begins after `place` of the bytes that are held; `None` exactly if no whole item begins there.
+    /// Returns what begins after the first `place` of the bytes that the reader holds, or `None` exactly if
+    /// no whole item begins there.
     fn item_in(&self, held: &[u8], offset: u64, place: usize) -> Option<Found<A, I>>
         requires held { held.now ≡ held_bytes self.now }
         requires offset { offset ≡ first_offset self.now }
@@ -96,13 +98,13 @@ pub trait Items<A, I> {
             (length held.now) place found) }
         ensures none { result ≡ None → IsHeld place self.now → ⊥ };
 
-    /// Goes on after the first `count` of the bytes that are held.
+    /// Continues after the first `count` of the bytes that the reader holds.
     fn pass(&mut self, count: usize)
         requires { count ≤ length (held_bytes self.old) }
         ensures { self.new ≡ passed count self.old };
 
-    /// Reads until a whole item is held, if none is. After `More::Failed` nothing is lost, and a later call
-    /// goes on from there.
+    /// Reads until the reader holds a whole item, if it doesn't yet. After `More::Failed` nothing is lost,
+    /// and a later call continues from there.
     fn more<S: Source>(&mut self, input: &mut S) -> More
         ensures answer { (first : Self) (all : Option (List ℕ)) (items : List (A × I)) →
             HasGiven first self.old (given all (S.left input.old) items) →
@@ -110,32 +112,32 @@ pub trait Items<A, I> {
         ensures held { result ≡ More.Held → IsHeld 0 self.new × (to_go self.new ≡ to_go self.old) }
         ensures cause { MoreCause (S.faults input.old) (S.faults input.new) result };
 
-    /// A new reader has given nothing.
+    /// A new reader has returned nothing.
     ghost starts: { (first : Self) (all : Option (List ℕ)) → IsNew first →
         HasGiven first first (given all all []) };
 
-    /// A reader that has passed nothing is as it was.
+    /// A reader that passes no bytes stays as it is.
     ghost stays: { (reader : Self) → passed 0 reader ≡ reader };
 }
 
-/// Does the work on items, one by one.
+/// Does the work of a pass on items, one by one.
 pub trait Engine<A, I> {
-    /// Its work, by a new engine.
+    /// The work that a new engine does.
     ghost work: { Self → Work (A × I) };
 
-    /// It has taken no item.
+    /// The engine has processed no item.
     ghost IsReady: { Self → Type 0 };
 
-    /// It puts pieces in lanes.
+    /// The engine writes pieces to lanes.
     ghost UsesLanes: { Type 0 };
 
-    /// The first engine, which was ready, has become the second by these items, the newest first.
+    /// The first engine, which was ready, has become the second after these items, the newest first.
     ghost Holds: { Self → Self → List (A × I) → Type 0 };
 
-    /// What a step asks of an item.
+    /// What a step requires of an item.
     ghost Asks: { A × I → Type 0 };
 
-    /// What must hold of an item after others, the newest first.
+    /// What a step requires of an item that comes after others, the newest first.
     ghost AsksAfter: { List (A × I) → A × I → Type 0 };
 
     /// Does the work on one more item.
@@ -150,29 +152,29 @@ pub trait Engine<A, I> {
             (O.places outputs.old) (O.places outputs.new) (at.now, item.now) result
             × IfOk result (λ done. Holds first self.new ((at.now, item.now) ∷ past)) };
 
-    /// Does what is to be done at the end of the input.
+    /// Does the work that is left at the end of the input.
     fn close<O: Outputs>(&self, outputs: &mut O) -> Result<(), RunEnd>
         requires { UsesLanes → (O.places outputs.old).begun ≡ true }
         ensures { (first : Self) (past : List (A × I)) → Holds first self.now past →
             Closes (work first) past
             (O.places outputs.old) (O.places outputs.new) result };
 
-    /// What is put for an item, and at the end of the input, goes to the places that the work names.
+    /// What is written for an item and at the end of the input goes to the places that the work names.
     ghost puts_are_named: { (first : Self) (past : List (A × I)) (item : A × I) (puts : List Put) →
         (work first).IsPut past item puts → AreNamed (work first).names puts };
 
     ghost last_puts_are_named: { (first : Self) (past : List (A × I)) (puts : List Put) →
         (work first).IsPutAtEnd past puts → AreNamed (work first).names puts };
 
-    /// A ready engine holds what no items leave.
+    /// A ready engine holds the state that no items leave.
     ghost starts: { (first : Self) → IsReady first → Holds first first [] };
 
-    /// What is put for items means what they mean.
+    /// What is written for items means what the items mean.
     ghost means: { (first now : Self) (past : List (A × I)) (puts : List Put) → Holds first now past →
         AreAccepted (work first) past → ArePut (work first) past puts → (work first).Means past puts };
 }
 
-// The end if what is put at the end of the input is put, or failed.
+// Returns the end of a run after `close`, which succeeded or failed.
 pub(crate) fn end_of(closed: Result<(), RunEnd>) -> RunEnd
     ensures { result ≡ end_after closed }
 {
@@ -182,7 +184,7 @@ pub(crate) fn end_of(closed: Result<(), RunEnd>) -> RunEnd
     }
 }
 
-/// Writes out what was put if the input may wait, so that nobody waits for it.
+/// Writes out what is buffered if reading the input may wait, so that no peer waits for it.
 #[inline(never)]
 pub fn write_out<S: Source, O: Outputs>(input: &S, outputs: &mut O)
     ensures { O.places outputs.new ≡ O.places outputs.old }
@@ -192,8 +194,9 @@ pub fn write_out<S: Source, O: Outputs>(input: &S, outputs: &mut O)
     }
 }
 
-/// Reads an input item by item and does the work on each, to the end or to the first refusal. What was put is
-/// written out before an input is read that may keep waiting.
+/// Reads an input item by item and does the work on each, to the end of the input or to the first refusal.
+/// Before a read that may keep waiting, it writes out what is buffered. The page `docs/passes.md` explains
+/// the promises.
 #[inline(always)]
 pub fn drive<
     A: Drop,
@@ -223,7 +226,8 @@ pub fn drive<
     drive_into(&OneByOne, reader, engine, input, &mut outputs)
 }
 
-// The same for places that are given as one value, with the held items taken in this way.
+// Does the same as `drive`, for places that are given as one value. `taking` says how held items are
+// processed.
 #[inline(always)]
 pub(crate) fn drive_into<
     A: Drop,

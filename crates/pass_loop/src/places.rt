@@ -1,4 +1,4 @@
-// One put into a place.
+// A single write to one place.
 ghost use Rattle.std.specs.Prelude.{◌≡◌, ◌<◌, ◌∷◌, [], true, length};
 ghost use Rattle.pass_loop.specs.Places.{Puts, places};
 ghost use Rattle.pass_loop.specs.Put.{in_notes, in_output};
@@ -6,8 +6,9 @@ ghost use Rattle.pass_loop.specs.Put.{in_notes, in_output};
 use crate::ends::RunEnd;
 use outside::{Lanes, Sink};
 
-/// Puts text, which isn't empty, in the output. An `Err` is `OutputFault`, and comes only if the count of
-/// the output's faults rose. The output has then gained at most a front of the text that isn't all of it.
+/// Writes text, which isn't empty, to the output. The error is always `OutputFault`, and is returned only if
+/// the output's count of faults rose. In that case the output has gained at most a front of the text, but not
+/// the whole text.
 #[inline]
 pub fn put_output<L: Lanes, W: Sink, N: Sink>(
     text: &[u8],
@@ -26,8 +27,9 @@ pub fn put_output<L: Lanes, W: Sink, N: Sink>(
     }
 }
 
-/// Puts text, which isn't empty, in the notes. An `Err` is `NoteFault`, and comes only if the count of the
-/// notes' faults rose. The notes have then gained at most a front of the text that isn't all of it.
+/// Writes text, which isn't empty, to the notes. The error is always `NoteFault`, and is returned only if the
+/// notes' count of faults rose. In that case the notes have gained at most a front of the text, but not the
+/// whole text.
 #[inline]
 pub fn put_notes<L: Lanes, W: Sink, N: Sink>(
     text: &[u8],

@@ -1,4 +1,4 @@
-// The loop of a pass over bytes, of which the engine may take several at once.
+// The loop of a pass over bytes whose engine may process several bytes at once.
 ghost use Rattle.std.specs.Prelude.{◌≡◌, ◌<◌, ◌≤◌, ℕ, IfOk, List, length, true};
 ghost use Rattle.item_reader.specs.ByteReader.{new_bytes};
 ghost use Rattle.pass_loop.specs.Bytes.{byte_cutting, limit};
@@ -14,14 +14,14 @@ use crate::pass::{Engine, drive_into};
 use item_reader::{ByteReader, EachByte};
 use outside::{Lanes, Sink, Source};
 
-/// Does the work on bytes one by one, and on several of them at once if it can.
+/// Does the work on bytes one by one, and on several bytes at once where it can.
 pub trait Runs: Engine<u64, u8> {
-    /// None of the bytes at the front of these are taken at once.
+    /// The engine processes none of the bytes at the front of these at once.
     ghost TakesNone: { Self → List ℕ → Type 0 };
 
-    /// Takes bytes at the front of these at once, as far as it can, and returns their number: the same as
-    /// by a step for each. 0 is returned only if it takes none of them at once: nothing is done, and the
-    /// caller takes the next byte by a step.
+    /// Processes bytes at the front of these at once, as far as it can, with the same result as a step for
+    /// each, and returns their number. Returns 0 only if it can process none of them at once. In that case
+    /// nothing is done, and the caller processes the next byte by a step.
     fn take_run<O: Outputs>(&mut self, bytes: &[u8], outputs: &mut O) -> Result<usize, RunEnd>
         requires holds { (first : Self) × (past : List (ℕ × ℕ)) × Self.Holds first self.old past }
         requires begun { Self.UsesLanes → (O.places outputs.old).begun ≡ true }
@@ -32,8 +32,8 @@ pub trait Runs: Engine<u64, u8> {
             (O.places outputs.old) (O.places outputs.new) result };
 }
 
-// Takes bytes at the front of these at once if the engine can, and else the first one, which has this
-// offset, and says how many.
+// Processes several bytes at the front of these at once if the engine can, otherwise the first byte, which
+// has this offset. Returns the number of bytes that are processed.
 #[inline(always)]
 fn take_some<E: Runs, O: Outputs>(
     engine: &mut E,
@@ -60,7 +60,7 @@ fn take_some<E: Runs, O: Outputs>(
     }
 }
 
-/// By a run of several bytes, and else by a step for one.
+/// Processes several bytes at once where the engine can, and otherwise one byte by a step.
 pub(crate) struct SeveralAtOnce;
 
 impl<E: Runs> Taking<u64, u8, ByteReader, E> for SeveralAtOnce {
@@ -81,8 +81,9 @@ impl<E: Runs> Taking<u64, u8, ByteReader, E> for SeveralAtOnce {
     }
 }
 
-/// Reads an input byte by byte and does the work on each, or on several at once, to the end or to the first
-/// refusal: the same as `drive`. What was put is written out before an input is read that may keep waiting.
+/// Reads an input byte by byte and does the work on each, or on several bytes at once, to the end of the
+/// input or to the first refusal. The result is the same as that of `drive`. Before a read that may keep
+/// waiting, it writes out what is buffered.
 #[inline(always)]
 pub fn drive_bytes<E: Runs + Drop, S: Source, L: Lanes, W: Sink, N: Sink>(
     reader: ByteReader,

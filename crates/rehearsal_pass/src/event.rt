@@ -1,19 +1,19 @@
-// Events as they stand in an input.
+// Events as the input has them.
 ghost use Rattle.std.specs.Prelude.{◌≡◌, ◌≤◌, ◌^◌, length};
 ghost use Rattle.rehearsal_pass.specs.EventBytes.{event_at, event_length, three_bytes};
 
 use item_reader::Cut;
 
-/// An event of a rehearsal as its three bytes say it (own rule).
+/// An event of a rehearsal, as three bytes spell it (own rule).
 #[derive(Clone, Copy, Debug, PartialEq, Eq)]
 pub struct CalledEvent {
-    /// The first byte.
+    /// The kind: the first byte.
     pub kind: u8,
-    /// The other two, the high byte first.
+    /// The number: the other two bytes, the high byte first.
     pub number: u16,
 }
 
-/// Each three bytes are an event.
+/// Describes the cutting of an input into events: each three bytes are one event.
 #[derive(Clone, Copy, Debug, PartialEq, Eq)]
 pub struct EachEvent;
 

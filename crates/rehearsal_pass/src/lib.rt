@@ -1,4 +1,7 @@
-//! The pass over the events of a rehearsal: an initiator of MIDI-CI, and the responder of a setup.
+//! Runs the command `rehearse` over a whole stream of events: a rehearsal between a MIDI-CI initiator and the
+//! responder of a setup.
+//!
+//! Start with [`RehearseRun`], whose `new` takes the setup and allocates, and [`run_rehearse`].
 #![tactic(auto)]
 
 pub mod event;

@@ -13,7 +13,7 @@ use ci_text::name_of_heard;
 use endpoint_lines::word_of;
 use text_lines::{Line, put_decimal, put_text};
 
-// What the line says of a message that the initiator heard.
+// Returns the word for a message that the initiator heard.
 fn word_of_noted(noted: Noted) -> &'static str
     ensures word { result.now ≡ noted_word noted }
     ensures size { length result.now ≤ 13 }
@@ -27,7 +27,7 @@ fn word_of_noted(noted: Noted) -> &'static str
     }
 }
 
-// What the line of an event says.
+// Returns the word for the result of an event.
 fn word_of_told(told: Told) -> &'static str
     ensures word { result.now ≡ told_word told }
     ensures size { length result.now ≤ 13 }
@@ -39,7 +39,7 @@ fn word_of_told(told: Told) -> &'static str
     }
 }
 
-/// The line of an event: its offset, and what came of it (own rule).
+/// Returns the line for an event: its offset, and the word for its result (own rule).
 pub(crate) fn told_line(offset: u64, told: Told) -> Line
     ensures text { result ≡ told_text offset told }
     ensures some { 0 < length result }
@@ -52,7 +52,7 @@ pub(crate) fn told_line(offset: u64, told: Told) -> Line
     line
 }
 
-// The state of a watch, as a word.
+// Returns the word for the state of a watch.
 fn word_of_held(held: Option<bool>) -> &'static str
     ensures word { result.now ≡ held_word held }
     ensures size { length result.now ≤ 7 }
@@ -64,7 +64,7 @@ fn word_of_held(held: Option<bool>) -> &'static str
     }
 }
 
-/// The line of the state of a watch, by its number (own rule).
+/// Returns the line for the state of a watch, by the watch's number (own rule).
 pub(crate) fn held_line(number: usize, held: Option<bool>) -> Line
     ensures text { result ≡ held_text number held }
     ensures some { 0 < length result }

@@ -1,4 +1,4 @@
-// A rehearsal, event by event.
+// Runs a rehearsal, event by event.
 ghost use Rattle.std.specs.Prelude.{◌≡◌, ◌∷◌, [], IfOk};
 ghost use Rattle.ci_responder.specs.Keys.{state_in};
 ghost use Rattle.pass_loop.specs.PassEnds.{PassEnds};
@@ -38,7 +38,8 @@ use small_types::NoMemory;
 use std::alloc::Global;
 use std::marker::Model;
 
-/// A rehearsal that is ready to run, with all its memory. A contract sees what its setup says.
+/// A rehearsal that is ready to run and has all its memory. In contracts its value is the contents of the
+/// setup.
 #[derive(Drop)]
 pub struct RehearseRun {
     engine: RehearseEngine,
@@ -56,9 +57,9 @@ impl Model for RehearseRun {
 }
 
 impl RehearseRun {
-    /// The rehearsal of a setup: its responder, and an initiator that watches the profiles of one function
-    /// block. `NoMemory` when there isn't the memory for both and for 1,024 messages of each. No other call
-    /// takes any.
+    /// Creates the rehearsal of a setup: its responder, and an initiator that watches the profiles of one
+    /// function block. Returns `NoMemory` if there isn't enough memory for both sides and for 1,024 messages
+    /// of each. No other call allocates.
     pub fn new(alloc: Global, setup: Setup) -> Result<RehearseRun, NoMemory>
         ensures { IfOk result (λ run. run ≡ setup) }
     {
@@ -69,7 +70,7 @@ impl RehearseRun {
     }
 }
 
-// Puts a line in the output for each event, and at the end the lines of the watches and of the profiles.
+// Writes a line for each event to the output, and at the end the lines for the watches and for the profiles.
 #[derive(Drop)]
 struct RehearseEngine {
     setup: Setup,
@@ -117,7 +118,7 @@ impl Engine<u64, CalledEvent> for RehearseEngine {
     ghost means = { λ first now past puts holds accepted put. rehearsal_means first now past holds };
 }
 
-// Why an event is refused.
+// Returns the reason for an event that is refused.
 fn reason_of(fault: EventFault) -> Reason
     ensures { result ≡ reason_of_fault fault }
 {
@@ -127,7 +128,7 @@ fn reason_of(fault: EventFault) -> Reason
     }
 }
 
-// Puts the line of an event.
+// Writes the line for an event.
 fn put_told<O: Outputs>(offset: u64, told: Told, outputs: &mut O) -> Result<(), RunEnd>
     ensures { Puts (in_output (told_text offset told) ∷ [])
         (O.places outputs.old) (O.places outputs.new) result }
@@ -136,7 +137,7 @@ fn put_told<O: Outputs>(offset: u64, told: Told, outputs: &mut O) -> Result<(), 
     outputs.put_output(line.as_slice())
 }
 
-// Puts the line of the state of a watch.
+// Writes the line for the state of a watch.
 fn put_held<O: Outputs>(number: usize, held: Option<bool>, outputs: &mut O) -> Result<(), RunEnd>
     ensures { Puts (in_output (held_text number held) ∷ [])
         (O.places outputs.old) (O.places outputs.new) result }
@@ -155,7 +156,7 @@ impl ProfileStates for RehearseEngine {
 }
 
 impl RehearseEngine {
-    // Puts the line of the state of each watch.
+    // Writes the line for the state of each watch.
     fn put_watches<O: Outputs>(&self, outputs: &mut O) -> Result<(), RunEnd>
         ensures { Puts (for_each held_line_of 0 self.now.rehearsal.initiator.watched)
             (O.places outputs.old) (O.places outputs.new) result }
@@ -166,7 +167,7 @@ impl RehearseEngine {
         Ok(())
     }
 
-    // Puts the lines of the watches, and those of the profiles.
+    // Writes the lines for the watches, and then those for the profiles.
     fn put_closing<O: Outputs>(&self, outputs: &mut O) -> Result<(), RunEnd>
         ensures { Puts (closing_lines self.now.setup self.now.rehearsal)
             (O.places outputs.old) (O.places outputs.new) result }
@@ -178,12 +179,12 @@ impl RehearseEngine {
 
 /// Runs a rehearsal over a stream of events, to its end or to the first event that is refused (M2-101-UM; the
 /// events and the lines are own rule). An event has three bytes: its kind, and its number with the high byte
-/// first, as `Rehearsal::event` takes them. Puts a line in the output for each event; at the end a line of
-/// the state of each watch, and one of each profile. Takes no memory.
+/// first, as `Rehearsal::event` reads them. Writes a line for each event to the output, and at the end a line
+/// for the state of each watch and one for each profile. The call doesn't allocate.
 ///
-/// `Refused` comes for `Truncated`, `InputTooLong`, `BadEvent` and `TooManyMessages`, with the number of
-/// bytes before what is refused. `ReadFault` and `OutputFault` are returned only if the count of that object
-/// rose. The lanes and the notes are unchanged.
+/// Returns `Refused` for `Truncated`, `InputTooLong`, `BadEvent` and `TooManyMessages`, with the number of
+/// bytes before the event or end that is refused. Returns `ReadFault` or `OutputFault` only if the fault
+/// count of that object rose. The lanes and the notes are unchanged.
 pub fn run_rehearse<S: Source, L: Lanes, W: Sink, N: Sink>(
     run: RehearseRun,
     input: &mut S,

@@ -1,4 +1,4 @@
-// The bytes of channel voice messages, up and down again.
+// Translates the bytes of channel voice messages up, and down again.
 ghost use Rattle.std.specs.Prelude.{◌≡◌, ◌≤◌, ◌<◌, ◌+◌, ◌*◌, ◌^◌, ℕ, List, ◌∷◌, ◌++◌, length, reverse, None, Some};
 ghost use Rattle.ump_grammar.specs.Ranges.{IsPacket};
 ghost use Rattle.down_translator.specs.Held.{down_after, refusal_in};
@@ -12,7 +12,8 @@ use midi1_bytes::laws::parsed_bytes_are_the_definition;
 use up_translator::laws::raised_bytes_are_the_definition;
 use up_translator::{RaisedPacket, Up};
 
-// Takes a packet down to which a message is raised: the number of bytes of its piece. None is refused.
+// Translates down the packet of a message that was translated up. Returns the number of bytes of the packet's
+// piece. No packet is refused.
 fn bring_down(packet: &RaisedPacket, offset: u64, down: &mut Down) -> u64
     requires fits { IsPacket packet.now }
     requires accepted { refusal_in down.old packet.now ≡ None }
@@ -25,8 +26,9 @@ fn bring_down(packet: &RaisedPacket, offset: u64, down: &mut Down) -> u64
     }
 }
 
-// Takes a byte up, and the packet that it completes down again: the number of bytes that come back, at most
-// twelve. Channel voice messages complete no exclusive, and neither way refuses any.
+// Translates one byte up, and down again the packet that the byte completes. Returns the number of bytes that
+// come back, at most twelve. Channel voice messages complete no exclusive, and neither translator refuses
+// them.
 fn bring_byte_back(byte: u8, offset: u64, up: &mut Up, down: &mut Down) -> u64
     requires ready { (past : List ℕ) × HasReturned past up.old down.old
         × IsPlayedStep (step_of (Some 6) past byte) × (offset ≡ length past) }
@@ -46,8 +48,8 @@ fn bring_byte_back(byte: u8, offset: u64, up: &mut Up, down: &mut Down) -> u64
     }
 }
 
-// Takes the bytes of a piece up, and the packets that they complete down again: the number of bytes that come
-// back, at most twelve for each.
+// Translates the bytes of a piece up, and the packets that they complete down again. Returns the number of
+// bytes that come back, at most twelve for each byte of the piece.
 pub(crate) fn bring_back(piece: &[u8], offset: u64, up: &mut Up, down: &mut Down) -> u64
     requires ready { (past : List ℕ) × HasReturned past up.old down.old
         × ArePlayed (reverse piece.now ++ past) × (offset ≡ length past) }

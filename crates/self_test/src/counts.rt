@@ -1,4 +1,4 @@
-// What a test counts.
+// The counts of a test.
 ghost use Rattle.std.specs.Prelude.{◌≡◌, IfOk};
 ghost use Rattle.self_test.specs.Counts.{counted};
 
@@ -7,23 +7,25 @@ use crate::generator::Generator;
 use small_types::NoMemory;
 use std::alloc::Global;
 
-/// What a test counts.
+/// The counts of a test.
 #[derive(Clone, Copy, Debug, PartialEq, Eq)]
 pub struct Counts {
-    /// The packets that are carried, each with a piece.
+    /// The number of packets that are carried, each with a piece.
     pub carried: u64,
-    /// The lines of the listing on the way down.
+    /// The number of lines that the first way down lists.
     pub listed: u64,
-    /// The bytes of all pieces.
+    /// The number of bytes in all pieces of the first way down.
     pub bytes: u64,
-    /// The bytes of the pieces of what these bytes are raised to.
+    /// The number of bytes in the pieces of the second way down, to which the bytes of the first are brought
+    /// back.
     pub again: u64,
 }
 
-/// The counts of the first packets of a seed (own rule): they go down in plain style, the bytes of their
-/// pieces go up in group 0, and the packets of these go down in plain style again. No exclusive is among
-/// them. `NoMemory` when there isn't the memory that the three translators reserve at first; no more is
-/// taken, however many packets there are.
+/// Counts over the first packets that a seed generates (own rule). The packets are translated down in plain
+/// style, the bytes of their pieces are translated up in group 0, and the packets of these bytes are
+/// translated down again in plain style. There is no exclusive among them. Returns `NoMemory` if there isn't
+/// the memory that the three translators reserve at first. No more memory is allocated, however many packets
+/// there are.
 pub fn count(alloc: Global, seed: u32, packets: u32) -> Result<Counts, NoMemory>
     ensures { IfOk result (λ counts. counts ≡ counted seed packets) }
 {

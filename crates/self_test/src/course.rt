@@ -1,4 +1,4 @@
-// The course of packets: down, up and down again.
+// Takes packets down, up and down again.
 ghost use Rattle.std.specs.Prelude.{◌≡◌, ◌≤◌, ◌<◌, ◌*◌, ◌^◌, ◌==◌, if◌then◌else◌, [], ◌∷◌, IfOk, List, length};
 ghost use Rattle.std.specs.Option.{option_to_list};
 ghost use Rattle.midi_meaning.specs.Parts.{Placed};
@@ -17,10 +17,11 @@ use std::alloc::Global;
 use ump_grammar::Packet;
 use up_translator::Up;
 
-// The most bytes of an exclusive between F0 and F7. There is none.
+// The most bytes of an exclusive between F0 and F7. No exclusive occurs, so this is the least that is
+// allowed.
 const ROOM: u32 = 6;
 
-// The three translators, and what is counted so far.
+// The three translators, and the counts so far.
 #[derive(Drop)]
 pub(crate) struct Course {
     down: Down,
@@ -30,7 +31,7 @@ pub(crate) struct Course {
 }
 
 impl Course {
-    // Takes all memory.
+    // Creates the three translators. Allocates all the memory.
     pub(crate) fn new(alloc: Global) -> Result<Course, NoMemory>
         ensures { IfOk result (HasTaken []) }
     {
@@ -50,7 +51,7 @@ impl Course {
         })
     }
 
-    // Takes one more packet at its offset; each has eight bytes. None is refused.
+    // Takes one more packet, which has eight bytes, at its offset. No packet is refused.
     pub(crate) fn take(&mut self, packet: &Packet, offset: u64)
         requires played { IsPlayed packet.now }
         requires taken { (past : List Placed) × HasTaken past self.old × (length past < 2 ^ 32)
@@ -71,7 +72,7 @@ impl Course {
         }
     }
 
-    // What is counted so far.
+    // Returns the counts so far.
     pub(crate) fn counts(&self) -> Counts
         ensures { (past : List Placed) → HasTaken past self.now → result ≡ counts_of past }
     {
@@ -79,7 +80,8 @@ impl Course {
     }
 }
 
-// The counts with what is carried of one more packet, and with the bytes that come back of it.
+// Returns the counts with one more packet, whose outcome on the first way down is `carried`, and which came
+// back as `again` bytes.
 fn with_more(counts: Counts, carried: &Carried<'_>, again: u64) -> Counts
     requires carried { counts.carried < 2 ^ 60 }
     requires listed { counts.listed < 2 ^ 60 }
@@ -97,7 +99,7 @@ fn with_more(counts: Counts, carried: &Carried<'_>, again: u64) -> Counts
     }
 }
 
-// One for a packet that is carried, and otherwise none.
+// Returns 1 for a packet that is carried, otherwise 0.
 fn piece_count(carried: &Carried<'_>) -> u64
     ensures count { result ≡ (if length carried.now.piece.now == 0 then 0 else 1) }
     ensures few { result ≤ 1 }
@@ -105,7 +107,7 @@ fn piece_count(carried: &Carried<'_>) -> u64
     if carried.piece.is_empty() { 0 } else { 1 }
 }
 
-// The number of its lines.
+// Returns the number of the packet's lines, 0 or 1.
 fn line_count(carried: &Carried<'_>) -> u64
     ensures count { result ≡ length (option_to_list (line_in carried.now)) }
     ensures few { result ≤ 1 }

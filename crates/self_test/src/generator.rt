@@ -15,7 +15,7 @@ const INCREMENT: u64 = 1_013_904_223;
 
 const MODULUS: u64 = 4_294_967_296;
 
-// The five draws of a packet, in the order in which they are drawn.
+// The five draws for a packet, in the order in which they are drawn.
 #[derive(Clone, Copy, Debug, PartialEq, Eq)]
 struct Draws {
     kind: u16,
@@ -26,7 +26,7 @@ struct Draws {
 }
 
 impl Draws {
-    // A value of 32 bits.
+    // Returns a value of 32 bits.
     fn value(&self) -> u32
         ensures value { result ≡ self.now.high * 65536 + self.now.low }
         ensures below { result < 2 ^ 32 }
@@ -34,7 +34,7 @@ impl Draws {
         u32::from(self.high) * 65536 + u32::from(self.low)
     }
 
-    // The bank of a program change, or none.
+    // Returns the bank of a program change, or `None`.
     fn bank(&self) -> Option<Bank>
         ensures bank { result ≡ bank_of self.now.high self.now.low }
         ensures range { IsBank result }
@@ -49,7 +49,7 @@ impl Draws {
         }
     }
 
-    // The registered parameter that is set.
+    // Returns the registered parameter that the message sets.
     fn param(&self) -> Param
         ensures kind { result.kind ≡ ParamKind.Registered }
         ensures bank { result.bank ≡ self.now.number % 128 }
@@ -62,7 +62,7 @@ impl Draws {
         }
     }
 
-    // The message.
+    // Returns the message that the five draws give.
     #[tactic(auto, using(crate::proofs::GeneratorLaws::not_refused), unfolding(crate::specs::Generator::drawn_message))]
     fn message(&self) -> Voice2
         ensures message { result ≡
@@ -114,8 +114,9 @@ impl Draws {
     }
 }
 
-/// A generator of packets: MIDI 2.0 channel voice messages in group 0, each by five draws from a linear
-/// congruential sequence (own rule). To a contract it is the number that the next draw begins with.
+/// A generator of packets: MIDI 2.0 channel voice messages in group 0. Five draws from a linear congruential
+/// sequence give each packet (own rule). In contracts its value is the number from which the next draw
+/// starts.
 #[derive(Clone, Copy, Debug, PartialEq, Eq)]
 pub struct Generator {
     number: u32,
@@ -139,14 +140,14 @@ impl Generator {
     ghost use Rattle.self_test.specs.Generator.{after_draw, generated, HasGiven, upper_half};
     ghost use Rattle.self_test.specs.Played.{IsPlayed};
 
-    /// A generator that has given no packet.
+    /// Creates a generator that hasn't returned a packet yet.
     pub fn new(seed: u32) -> Generator
         ensures { HasGiven seed 0 result }
     {
         Generator { number: seed }
     }
 
-    // One draw of 16 bits.
+    // Makes one draw of 16 bits.
     fn draw(&mut self) -> u16
         ensures drawn { result ≡ upper_half (after_draw self.old) }
         ensures after { self.new ≡ after_draw self.old }
@@ -156,7 +157,7 @@ impl Generator {
         (self.number / 65536) as u16
     }
 
-    // The draws of a packet.
+    // Makes the five draws for a packet.
     fn draws(&mut self) -> Draws
         ensures drawn { (seed count : ℕ) → HasGiven seed count self.old → AreDrawn seed count result }
         ensures after { (seed count : ℕ) → HasGiven seed count self.old →
@@ -176,7 +177,7 @@ impl Generator {
         }
     }
 
-    /// The next packet, which words spell and which the way down doesn't refuse.
+    /// Returns the next packet. Words spell it, and the way down doesn't refuse it.
     pub fn next(&mut self) -> Packet
         ensures packet { (seed count : ℕ) → HasGiven seed count self.old → result ≡ generated seed count }
         ensures after { (seed count : ℕ) → HasGiven seed count self.old →

@@ -1,5 +1,9 @@
-//! A test of both translators on packets that a generator draws: they go down, their bytes go up, and what
-//! comes of these goes down again. What the test finds is four counts.
+//! Tests both translators with packets that a generator draws. Each packet is translated down, its bytes are
+//! translated up, and the packets of these bytes are translated down again. The result of a test is four
+//! counts.
+//!
+//! Start with [`count`], which returns the [`Counts`] for a seed and a number of packets. [`Generator`] draws
+//! the packets.
 #![tactic(auto)]
 
 mod back;

@@ -1,4 +1,5 @@
-// The state that is kept while an input is shown, if it is asked for, and the lines of what it tells.
+// The receiver's state that is updated while an input is shown, if it is asked for, and the lines of its
+// facts.
 ghost use Rattle.std.specs.Prelude.{◌≡◌, false, true, None, is_some, IfOk, OnOk, OnErr};
 ghost use Rattle.midi1_bytes.specs.Answers.{step_view};
 ghost use Rattle.midi1_bytes.specs.Messages.{Message};
@@ -25,7 +26,7 @@ use std::alloc::Global;
 use ump_grammar::Packet;
 use voice_state::{Fact, VoiceState};
 
-/// A state before the first message or packet, if it is asked for.
+/// Creates a state before the first message or packet, if it is asked for.
 pub(crate) fn new_state(alloc: Global, is_asked: bool) -> Result<Option<VoiceState>, NoMemory>
     ensures asked { IfOk result (λ kept. is_some kept ≡ is_asked) }
     ensures messages { IfOk result (λ kept. StandsFor as_they_come kept (first_states as_they_come)) }
@@ -39,7 +40,8 @@ pub(crate) fn new_state(alloc: Global, is_asked: bool) -> Result<Option<VoiceSta
     }
 }
 
-// Takes a packet that ends an exclusive of this group, if it ends one. After `NoMemory` nothing has changed.
+// Updates the state with a packet. `ended` is the group of the exclusive that the packet ends, if it ends
+// one. After `NoMemory` nothing has changed.
 fn take_packet(state: &mut VoiceState, packet: &Packet, ended: Option<U4>) -> Result<(), NoMemory>
     ensures { OnOk result ((message : Message) (states : States) → Keeps raised state.old states
         → Keeps raised state.new (after_ending ended packet.now message states)) }
@@ -51,8 +53,8 @@ fn take_packet(state: &mut VoiceState, packet: &Packet, ended: Option<U4>) -> Re
     Ok(())
 }
 
-/// Keeps a packet that ends an exclusive of this group, if it ends one.
-/// Without a state nothing is kept, and no memory taken.
+/// Updates the state, if there is one, with a packet. `ended` is the group of the exclusive that the packet
+/// ends, if it ends one. Without a state, nothing is stored and nothing is allocated.
 pub(crate) fn keep_packet(
     kept: &mut Option<VoiceState>,
     packet: &Packet,
@@ -67,14 +69,14 @@ pub(crate) fn keep_packet(
     }
 }
 
-// The group of a MIDI 1.0 stream, which has none (own rule).
+// Returns the group that is used for a MIDI 1.0 stream, which has none (own rule).
 fn stream_group() -> U4
     ensures { result ≡ 0 }
 {
     U4::low_bits(0)
 }
 
-// Takes what a byte of a stream does.
+// Updates the state with the step of a stream's byte.
 fn take_step(state: &mut VoiceState, step: &Step<'_>) -> Result<(), NoMemory>
     ensures { OnOk result ((states : States) → Keeps as_they_come state.old states
         → Keeps as_they_come state.new (after_completed (completed_by (step_view step.now)) states)) }
@@ -104,7 +106,8 @@ fn take_step(state: &mut VoiceState, step: &Step<'_>) -> Result<(), NoMemory>
     }
 }
 
-/// Keeps what a byte of a stream does. Without a state nothing is kept, and no memory taken.
+/// Updates the state, if there is one, with the step of a stream's byte. Without a state, nothing is stored
+/// and nothing is allocated.
 pub(crate) fn keep_step(kept: &mut Option<VoiceState>, step: &Step<'_>) -> Result<(), NoMemory>
     ensures keeps { OnOk result (KeepsStep (step_view step.now) kept.old kept.new) }
     ensures memory { OnErr result (is_some kept.old ≡ true) }
@@ -115,7 +118,7 @@ pub(crate) fn keep_step(kept: &mut Option<VoiceState>, step: &Step<'_>) -> Resul
     }
 }
 
-/// What is told of the state, or nothing and without memory if none is kept.
+/// Returns the facts of the state. Without a state there are none, and nothing is allocated.
 pub(crate) fn facts_of(kept: &Option<VoiceState>, alloc: Global) -> Result<Vec<Fact>, NoMemory>
     ensures facts { IfOk result (λ facts. AreFactsOf kept.now facts.items) }
     ensures memory { OnErr result (is_some kept.now ≡ true) }
@@ -126,7 +129,7 @@ pub(crate) fn facts_of(kept: &Option<VoiceState>, alloc: Global) -> Result<Vec<F
     }
 }
 
-/// Puts the line of each of these in the output.
+/// Writes the line for each of these facts to the output.
 pub(crate) fn put_facts<O: Outputs>(facts: &[Fact], outputs: &mut O) -> Result<(), RunEnd>
     ensures { Puts (fact_puts facts.now) (O.places outputs.old) (O.places outputs.new) result }
 {

@@ -1,4 +1,4 @@
-// What holds of all inputs that are shown.
+// Laws that hold for all inputs that are shown.
 ghost use Rattle.pass_loop.specs.Bytes.{byte_cutting};
 ghost use Rattle.pass_loop.specs.FirstRefusal.{HasOneFirstRefusal};
 ghost use Rattle.packet_input.specs.Packets.{packet_cutting};
@@ -10,8 +10,8 @@ ghost use Rattle.show_pass.specs.ShowPackets.{showing};
 use packet_input::packets_are_cut_once;
 use pass_loop::laws::bytes_are_cut_once;
 
-/// A recording that is shown has one first refusal: after packets that are accepted it is refused at one
-/// offset and for one reason, whichever cutting tells it.
+/// A recording that is shown has one first refusal. After packets that are accepted, it is refused at one
+/// offset and for one reason, whichever way of cutting shows that refusal.
 pub fn a_recording_that_is_shown_has_one_first_refusal()
     ensures { (options : PacketLineOptions) →
         HasOneFirstRefusal (packet_cutting options.order) (showing options) }
@@ -19,22 +19,22 @@ pub fn a_recording_that_is_shown_has_one_first_refusal()
     packets_are_cut_once();
 }
 
-/// So has a stream of bytes.
+/// A byte stream that is shown has one first refusal, too.
 pub fn a_stream_that_is_shown_has_one_first_refusal()
     ensures { (options : ByteLineOptions) → HasOneFirstRefusal byte_cutting (showing_bytes options) }
 {
     bytes_are_cut_once();
 }
 
-/// When `show` is done, the output gained exactly the lines of the packets of the whole input, in their
-/// order, and after them those of what the packets mean, if the state is asked for.
+/// When `show` is done, the output gained exactly the lines of the packets of the whole input, in order. If
+/// the state is asked for, the lines for the meaning of the packets follow.
 pub fn a_recording_that_is_shown_is_that_of_the_input()
     ensures { DoneShowsTheRecording }
 {}
 
 /// When `show --bytes` is done, the output gained exactly the lines of the bytes of the whole input, in
-/// their order, then that of what is open at the end, and those of what the bytes mean, if the state is
-/// asked for.
+/// order, and then the line for the message that is open at the end. If the state is asked for, the lines for
+/// the meaning of the bytes follow.
 pub fn a_stream_that_is_shown_is_that_of_the_input()
     ensures { DoneShowsTheStream }
 {}

@@ -1,5 +1,8 @@
-//! The pass that shows an input, for other programs too: lines of a recording, or of a stream of bytes, and
-//! of the state that it leaves.
+//! Shows a whole input as text, for the program and for others: a line for each packet of a recording or each
+//! message of a byte stream, and lines for the state in which the input leaves a receiver.
+//!
+//! Start with [`ShowRun`], whose `new` takes the options and allocates, and [`run_show`], which writes the
+//! lines.
 #![tactic(auto)]
 
 mod kept_state;

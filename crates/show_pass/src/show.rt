@@ -1,4 +1,4 @@
-// Lines of packets, or of bytes.
+// Shows packets or bytes as lines.
 ghost use Rattle.std.specs.Prelude.{◌≡◌, ◌≢◌, ◌≤◌, IfOk, IsOk, OnErr, false};
 ghost use Rattle.pass_loop.specs.Pass.{seen};
 ghost use Rattle.show_pass.specs.Options.{asks_state, show_options};
@@ -17,14 +17,14 @@ use std::marker::Model;
 use sysex_groups::Groups;
 use voice_state::VoiceState;
 
-// What the lines of packets or of bytes need.
+// The parts that are needed to show packets or bytes.
 #[derive(Drop)]
 enum Lines {
     Packets { groups: Groups, order: Order },
     Bytes { parser: Parser },
 }
 
-/// Lines that are ready to begin. A contract sees their options.
+/// A pass that shows an input and is ready to begin. In contracts its value is the options.
 #[derive(Drop)]
 pub struct ShowRun {
     lines: Lines,
@@ -44,10 +44,11 @@ impl Model for ShowRun {
 }
 
 impl ShowRun {
-    /// With `bytes` lines of the bytes of a MIDI 1.0 stream, which has no words, else of packets, whose words
-    /// have this order; with `state` those of what the input leaves come at the end. `room` is the most bytes
-    /// of an exclusive between F0 and F7, 6 to 1,048,576 (own rule), for which each group, or the stream,
-    /// reserves memory; `NoMemory` if there isn't that much. Only a state takes more later.
+    /// Creates a pass that shows the bytes of a MIDI 1.0 stream if `bytes` is set, and otherwise packets,
+    /// whose words have this byte order. If `state` is set, the lines of the receiver's state come at the
+    /// end. `room` is the most bytes of an exclusive between F0 and F7, 6 to 1,048,576 (own rule), for which
+    /// the stream, or each group, reserves memory. Returns `NoMemory` if there isn't enough. Only a state
+    /// allocates more later.
     pub fn new(
         alloc: Global,
         bytes: bool,
@@ -71,7 +72,7 @@ impl ShowRun {
     }
 }
 
-// Want of memory is told as an error.
+// Returns the end of a run, with `NoMemory` as an error.
 fn told(end: RunEnd) -> Result<RunEnd, NoMemory>
     ensures same { end_of result ≡ end }
     ensures other { IfOk result (λ told. told ≢ RunEnd.NoMemory) }
@@ -83,18 +84,23 @@ fn told(end: RunEnd) -> Result<RunEnd, NoMemory>
     }
 }
 
-/// Puts the lines of the input in the output, to its end or to the first packet or byte that is refused. Of a
-/// recording (M2-104-UM) each packet has a line; one that makes its group's exclusive too long is refused and
-/// has none, and data increments and decrements are shown (own rules). Of a stream of bytes (MIDI 1.0
-/// Detailed Specification) each message that is completed has a line, and so has each byte that belongs to
-/// nothing, what is cut off and, at the end, what is still open. If the state is asked for, the lines end
-/// with those of what all packets of each group, or all bytes, leave in a receiver (own rule).
+/// Writes the lines of the input to the output, to the end of the input or to the first packet or byte that
+/// is refused.
 ///
-/// `Refused` comes for `InputTooLong` and `ExclusiveTooLong`, of a recording also for `Truncated`, `BadCount`
-/// and `HighBit`, with the number of bytes before what is refused. `ReadFault` and `OutputFault` come only
-/// if the count of that object rose. `NoMemory` comes only if the state is asked for, which else takes
-/// none: the lines of the packets or bytes before the one that found no memory then stand, whole. The lanes
-/// and the notes are unchanged.
+/// - For a recording (M2-104-UM), each packet has a line. A packet that makes its group's exclusive too long
+///   is refused and has none. Data increments and decrements are shown (own rules).
+/// - For a byte stream (MIDI 1.0 Detailed Specification), each completed message has a line. So has each byte
+///   that belongs to no message, each message or exclusive that is cut off and, at the end, the one that is
+///   still open.
+///
+/// If the state is asked for, lines for the state in which all packets of each group, or all bytes, leave a
+/// receiver come at the end (own rule).
+///
+/// Returns `Refused` for `InputTooLong` and `ExclusiveTooLong`, and for a recording also for `Truncated`,
+/// `BadCount` and `HighBit`, with the number of bytes before the item that is refused. Returns `ReadFault` or
+/// `OutputFault` only if the fault count of that object rose. Returns `NoMemory` only if the state is asked
+/// for, because otherwise the call doesn't allocate. In that case the lines of the packets or bytes before
+/// the one that ran out of memory have been written, whole. The lanes and the notes are unchanged.
 pub fn run_show<S: Source, L: Lanes, W: Sink, N: Sink>(
     alloc: Global,
     engine: ShowRun,

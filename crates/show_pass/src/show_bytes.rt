@@ -1,4 +1,4 @@
-// From a stream of MIDI 1.0 bytes to lines.
+// Shows a MIDI 1.0 byte stream as lines.
 ghost use Rattle.std.specs.Prelude.{◌≡◌, ◌<◌, ◌∷◌, ◌++◌, ℕ, List, [], None, Some, Ok, length, is_some};
 ghost use Rattle.midi1_bytes.specs.Answers.{step_view};
 ghost use Rattle.midi1_bytes.specs.Parsing.{idle, open_of, parse};
@@ -32,9 +32,9 @@ use std::alloc::Global;
 use voice_state::state_laws::bytes_are_kept;
 use voice_state::{Fact, VoiceState};
 
-// Puts a line for each message that the bytes of a stream complete, and for each byte that belongs to nothing
-// or cuts something off, and at the end a line for what is still open and, if a state is kept, those of
-// what it tells.
+// Writes a line for each message that the bytes of a stream complete, and for each byte that belongs to no
+// message or cuts something off. At the end it writes a line for the message that is still open and, if there
+// is a state, the lines of its facts.
 #[derive(Drop)]
 struct ShowBytes {
     parser: Parser,
@@ -85,8 +85,8 @@ impl Engine<u64, u8> for ShowBytes {
 }
 
 impl ShowBytes {
-    // Feeds one more byte to the parser, keeps what it does, if a state is kept, and puts the lines of it,
-    // which overwrite earlier ones. Most bytes are held, and of those the step is not copied.
+    // Passes one more byte to the parser, updates the state if there is one, and writes the byte's lines,
+    // each over the earlier one. Most bytes complete nothing, and their steps aren't copied.
     #[inline(always)]
     fn take_byte<O: Outputs>(
         &mut self,
@@ -112,8 +112,8 @@ impl ShowBytes {
     }
 }
 
-/// Puts the lines of a stream, to its end or to the first byte that is refused, and if a state is kept,
-/// those of what it tells. Nothing is open in the parser, and the state has taken nothing.
+/// Writes the lines of a stream, to its end or to the first byte that is refused, and if there is a state,
+/// the lines of its facts. The parser must have nothing open, and the state must be new.
 #[inline(never)]
 pub(crate) fn show_bytes<S: Source, L: Lanes, W: Sink, N: Sink>(
     parser: Parser,
@@ -141,7 +141,7 @@ pub(crate) fn show_bytes<S: Source, L: Lanes, W: Sink, N: Sink>(
     drive(ByteReader::new(LIMIT), engine, input, lanes, output, notes)
 }
 
-// Puts a line of the listing, which overwrites another one.
+// Writes a line of the listing over another line.
 fn put_kind<O: Outputs>(
     line: &mut Line,
     kind: Kind,
@@ -155,7 +155,7 @@ fn put_kind<O: Outputs>(
     outputs.put_output(line.as_slice())
 }
 
-// Puts the lines of what a byte does.
+// Writes the lines for the step of a byte.
 fn put_step<O: Outputs>(
     line: &mut Line,
     step: &Step<'_>,
@@ -189,7 +189,7 @@ fn put_step<O: Outputs>(
     }
 }
 
-// A message or an exclusive that a byte cut off: its offset, what it is, and what the byte does itself.
+// A message or an exclusive that a byte cut off: its offset, its kind, and what the byte itself does.
 #[derive(Clone, Copy)]
 struct CutOff {
     start: u64,
@@ -197,7 +197,7 @@ struct CutOff {
     after: AfterCut,
 }
 
-// Puts the line of what was cut off, and then that of the byte itself, if it has one.
+// Writes the line for the message that was cut off, and then the line for the byte itself, if it has one.
 fn put_cut<O: Outputs>(
     line: &mut Line,
     cut_off: CutOff,
@@ -211,7 +211,7 @@ fn put_cut<O: Outputs>(
     put_after(line, cut_off, offset, outputs)
 }
 
-// Puts the line of a byte that cut something off, if it has one.
+// Writes the line for a byte that cut something off, if it has one.
 fn put_after<O: Outputs>(
     line: &mut Line,
     cut_off: CutOff,
@@ -236,7 +236,7 @@ fn put_after<O: Outputs>(
     }
 }
 
-// Puts the line of what is still open at the end, if anything is.
+// Writes the line for the message that is still open at the end, if there is one.
 fn put_open<O: Outputs>(parser: &Parser, outputs: &mut O) -> Result<(), RunEnd>
     ensures { Puts (open_puts (open_of parser.now)) (O.places outputs.old) (O.places outputs.new) result }
 {
@@ -249,7 +249,8 @@ fn put_open<O: Outputs>(parser: &Parser, outputs: &mut O) -> Result<(), RunEnd>
     }
 }
 
-// Puts the line of what is still open, if anything is, and then that of each of these facts.
+// Writes the line for the message that is still open, if there is one, and then the line for each of these
+// facts.
 fn put_end<O: Outputs>(parser: &Parser, facts: &[Fact], outputs: &mut O) -> Result<(), RunEnd>
     ensures { Puts (open_puts (open_of parser.now) ++ fact_puts facts.now)
         (O.places outputs.old) (O.places outputs.new) result }

@@ -1,4 +1,4 @@
-// From packets to lines.
+// Shows packets as lines.
 ghost use Rattle.std.specs.Prelude.{◌≡◌, ◌≤◌, ◌∷◌, [], Ok, Some, None, length, is_some, IfOk, IfErr, OnOk};
 ghost use Rattle.ump_grammar.specs.Ranges.{IsPacket};
 ghost use Rattle.down_translator.specs.Held.{with_part_of};
@@ -37,8 +37,8 @@ use ump_grammar::Packet;
 use voice_state::VoiceState;
 use voice_state::state_laws::packets_are_kept;
 
-// Puts a line for each packet of a recording, and one for each text that stream packets carry; if a state
-// is kept, at the end those of what it tells.
+// Writes a line for each packet of a recording, and one for each text that stream packets carry. If there is
+// a state, it writes the lines of its facts at the end.
 #[derive(Drop)]
 struct ShowPackets {
     groups: Groups,
@@ -96,9 +96,9 @@ impl Engine<Framed, Packet> for ShowPackets {
         shown_packets_mean (packet_line_options first.groups first.state) past puts put };
 }
 
-/// Puts the lines of a recording, whose words have this order, to its end or to the first packet that is
-/// refused, and if a state is kept, those of what it tells. Nothing is open in the groups, and the state
-/// has taken nothing.
+/// Writes the lines of a recording, whose words have this byte order, to its end or to the first packet that
+/// is refused, and if there is a state, the lines of its facts. The groups must have nothing open, and the
+/// state must be new.
 #[inline(never)]
 pub(crate) fn show_packets<S: Source, L: Lanes, W: Sink, N: Sink>(
     groups: Groups,
@@ -130,8 +130,8 @@ pub(crate) fn show_packets<S: Source, L: Lanes, W: Sink, N: Sink>(
     drive(reader, engine, input, lanes, output, notes)
 }
 
-// Joins the exclusives of one more packet: the group of the exclusive that it ends, if it ends one. It is
-// refused if it passes the room.
+// Joins one more packet to the exclusives. Returns the group of the exclusive that the packet ends, if it
+// ends one. An exclusive that is longer than the limit is refused.
 fn join(groups: &mut Groups, packet: &Packet, offset: u64) -> Result<Option<U4>, BadStep>
     requires { IsPacket packet.now }
     ensures behind { groups.new ≡ with_part_of (part_of offset packet.now) groups.old }
@@ -151,7 +151,7 @@ fn join(groups: &mut Groups, packet: &Packet, offset: u64) -> Result<Option<U4>,
     }
 }
 
-// Puts the line of one more packet.
+// Writes the line for one more packet.
 fn put_packet<O: Outputs>(
     line: &mut Line,
     framed: &Framed,
@@ -166,7 +166,7 @@ fn put_packet<O: Outputs>(
     outputs.put_output(line.as_slice())
 }
 
-// Puts the line of one more packet, and then that of the text that it ends, if it ends one.
+// Writes the line for one more packet, and then the line for the text that it ends, if it ends one.
 fn put_lines<O: Outputs>(
     texts: &mut Texts,
     line: &mut Line,
@@ -186,8 +186,8 @@ fn put_lines<O: Outputs>(
 }
 
 impl ShowPackets {
-    // Takes one more packet: keeps it, if a state is kept, and puts
-    // its lines; nothing of both if it is refused.
+    // Handles one more packet: updates the state if there is one, and writes the packet's lines. If the
+    // packet is refused, it does neither.
     fn take_packet<O: Outputs>(
         &mut self,
         framed: &Framed,

@@ -22,7 +22,7 @@ pub(crate) struct Texts {
     blocks: TextJoin,
 }
 
-// A part of a text, lent from its message.
+// A part of a text, borrowed from its message.
 #[derive(Clone, Copy)]
 struct TextPart<'a> {
     kind: TextKind,
@@ -32,7 +32,7 @@ struct TextPart<'a> {
 }
 
 impl Texts {
-    /// Nothing is open.
+    /// Creates texts of which none is open.
     pub(crate) fn new() -> Texts
         ensures { result ≡ new_texts }
     {
@@ -44,7 +44,7 @@ impl Texts {
     }
 }
 
-// The part of a text that a message carries, if it carries one.
+// Returns the part of a text that a message carries, if it carries one.
 fn text_part(message: &StreamMessage) -> Option<TextPart<'_>>
     ensures { option_map part_view result ≡ text_in message.now }
 {
@@ -71,7 +71,7 @@ fn text_part(message: &StreamMessage) -> Option<TextPart<'_>>
     }
 }
 
-// Joins a part to the texts of its kind, and puts the line of the text that it ends, if it ends one.
+// Joins a part to the texts of its kind, and writes the line for the text that it ends, if it ends one.
 fn put_joined<O: Outputs>(
     join: &mut TextJoin,
     part: &TextPart<'_>,
@@ -91,7 +91,7 @@ fn put_joined<O: Outputs>(
     }
 }
 
-// The same, for a part of any kind.
+// Does the same as `put_joined` for a part of any kind.
 fn put_part<O: Outputs>(
     texts: &mut Texts,
     part: &TextPart<'_>,
@@ -110,8 +110,8 @@ fn put_part<O: Outputs>(
     }
 }
 
-/// Takes one more packet, and puts the line of the text that it ends, if it ends one, in the output. The line
-/// is overwritten.
+/// Handles one more packet, and writes the line for the text that it ends, if it ends one, to the output.
+/// `line` is overwritten.
 pub(crate) fn put_text<O: Outputs>(
     texts: &mut Texts,
     line: &mut Line,

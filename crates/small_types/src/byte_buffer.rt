@@ -1,11 +1,13 @@
-// Bytes in a fixed array.
+// Byte lists of a fixed capacity.
 ghost use Rattle.std.specs.Prelude.{◌≡◌, ◌≤◌, ◌+◌, [], ◌++◌, length, take};
 
 use std::marker::Model;
 
-/// At most `N` bytes, kept in place without memory of their own. To a contract it is the list of the bytes.
-/// Unlike a `ShortList` it is emptied by its size alone: the bytes stay in their places until others are
-/// written over them, and no call shows them.
+/// A list of at most `N` bytes, stored inline without heap memory. In contracts its value is the list of
+/// bytes.
+///
+/// To empty it, `clear` only sets the size to 0. The bytes remain in the array until others overwrite them,
+/// but no call returns them.
 #[derive(Drop)]
 pub struct ByteBuffer<const N: usize> {
     bytes: [u8; N],
@@ -23,7 +25,7 @@ impl<const N: usize> Model for ByteBuffer<N> {
 }
 
 impl<const N: usize> ByteBuffer<N> {
-    /// No bytes.
+    /// Returns an empty list.
     #[inline(always)]
     pub fn new() -> Self
         ensures { result ≡ [] }
@@ -34,7 +36,7 @@ impl<const N: usize> ByteBuffer<N> {
         }
     }
 
-    /// How many bytes there are, at most `N`.
+    /// Returns the number of bytes, at most `N`.
     #[inline(always)]
     pub fn len(&self) -> usize
         ensures value { result ≡ length self.now }
@@ -43,7 +45,7 @@ impl<const N: usize> ByteBuffer<N> {
         self.size
     }
 
-    /// The bytes, at most `N`.
+    /// Returns the bytes, at most `N` of them.
     #[inline(always)]
     pub fn as_slice(&self) -> &[u8]
         ensures value { result.now ≡ self.now }
@@ -52,7 +54,7 @@ impl<const N: usize> ByteBuffer<N> {
         &self.bytes[..self.size]
     }
 
-    /// Takes all bytes away.
+    /// Removes all bytes.
     #[inline(always)]
     pub fn clear(&mut self)
         ensures { self.new ≡ [] }
@@ -60,7 +62,7 @@ impl<const N: usize> ByteBuffer<N> {
         self.size = 0;
     }
 
-    /// Adds bytes at the end, no more than there are places left of `N`.
+    /// Appends bytes. The list must have room for all of them: at most `N` less its length.
     #[inline(always)]
     pub fn extend(&mut self, bytes: &[u8])
         requires { length self.old + length bytes.now ≤ N }
@@ -71,8 +73,8 @@ impl<const N: usize> ByteBuffer<N> {
         self.size = size + bytes.len();
     }
 
-    /// Adds bytes at the end, as `extend` does, but one by one, however many they are. That takes the least
-    /// time for a text that the compiler knows, since it joins the writes.
+    /// Appends bytes as `extend` does, but one at a time, whatever their number. Use it for a text that the
+    /// compiler knows: the compiler joins the writes, so it is the fastest way for such a text.
     #[inline(always)]
     pub fn extend_one_by_one(&mut self, bytes: &[u8])
         requires { length self.old + length bytes.now ≤ N }
@@ -83,8 +85,8 @@ impl<const N: usize> ByteBuffer<N> {
         self.size = size + bytes.len();
     }
 
-    /// Adds the first `count` of these bytes at the end. There are places of `N` left for all of them, and
-    /// all are written, so that they can be copied without asking how many are wanted.
+    /// Appends the first `count` of `bytes`. The list must have room for all of `bytes`, since all are
+    /// written: so they can be copied without a test of `count`.
     #[inline(always)]
     pub fn extend_by(&mut self, bytes: &[u8], count: usize)
         requires room { length self.old + length bytes.now ≤ N }
@@ -97,8 +99,8 @@ impl<const N: usize> ByteBuffer<N> {
     }
 }
 
-// Writes bytes over those from a place on. One to three bytes, as most messages have, are written one by one,
-// which takes less time than a copy.
+// Writes bytes over those from `start` on. Most messages have one to three bytes. These are written one at
+// a time, which is faster than a copy.
 #[inline(always)]
 fn write_at(cells: &mut [u8], start: usize, bytes: &[u8])
     requires { start + length bytes.now ≤ length cells.old }
@@ -113,7 +115,7 @@ fn write_at(cells: &mut [u8], start: usize, bytes: &[u8])
     }
 }
 
-// Writes bytes one by one over those from a place on.
+// Writes bytes over those from `start` on, one at a time.
 #[inline(always)]
 fn write_each(cells: &mut [u8], start: usize, bytes: &[u8])
     requires { start + length bytes.now ≤ length cells.old }
@@ -125,7 +127,7 @@ fn write_each(cells: &mut [u8], start: usize, bytes: &[u8])
     }
 }
 
-// Writes bytes by one copy over those from a place on.
+// Writes bytes over those from `start` on, with one copy.
 #[inline(always)]
 fn write_copy(cells: &mut [u8], start: usize, bytes: &[u8])
     requires { start + length bytes.now ≤ length cells.old }

@@ -1,9 +1,10 @@
-// A number of few bits.
+// Numbers of four bits.
 ghost use Rattle.std.specs.Prelude.{◌≡◌, ◌<◌, ◌≤◌, ◌%◌, MatchOption};
 
 use std::marker::Model;
 
-/// A number below 16, as a group or a channel, counted from 0. To a contract it is the number.
+/// A number from 0 to 15, such as a group or a channel counted from 0. In contracts its value is that
+/// number.
 #[derive(Clone, Copy, Debug, PartialEq, Eq)]
 pub struct U4 {
     value: u8,
@@ -22,14 +23,14 @@ impl Model for U4 {
 }
 
 impl U4 {
-    /// The number; `None` exactly if it is 16 or more.
+    /// Returns the number as a `U4`, or `None` exactly if it is 16 or more.
     pub fn new(value: u8) -> Option<Self>
         ensures { MatchOption result (16 ≤ value) (λ u. (u ≡ value) × (value < 16)) }
     {
         if value < 16 { Some(U4 { value }) } else { None }
     }
 
-    /// The low four bits of a number.
+    /// Returns the low four bits of a number.
     pub fn low_bits(value: u32) -> Self
         ensures { result ≡ value % 16 }
     {
@@ -38,7 +39,7 @@ impl U4 {
         }
     }
 
-    /// The number, 0 to 15.
+    /// Returns the number, 0 to 15.
     pub fn get(self) -> u8
         ensures value { result ≡ self }
         ensures below { self < 16 }

@@ -1,10 +1,10 @@
-// A number of few bits in what is lent.
+// Numbers of four bits for values that are lent.
 ghost use Rattle.std.specs.Prelude.{◌≡◌, ◌<◌};
 
 use crate::few_bits::U4;
 
-/// A number below 16 in what is lent, which can't hold a type that
-/// contracts see as another value, as `U4` is.
+/// A number from 0 to 15 for use within a lent value. A lent value can't contain a `U4`, since contracts
+/// see a `U4` as another value.
 #[derive(Clone, Copy, Debug)]
 pub struct LentU4 {
     /// The number, 0 to 15.
@@ -13,7 +13,7 @@ pub struct LentU4 {
 }
 
 impl LentU4 {
-    /// The same number, to be lent.
+    /// Wraps a number, so that it can be lent.
     #[inline]
     pub fn of(number: U4) -> Self
         ensures { result.number ≡ number }
@@ -23,7 +23,7 @@ impl LentU4 {
         }
     }
 
-    /// The number that was lent.
+    /// Returns the number as a `U4`.
     #[inline]
     pub fn get(self) -> U4
         ensures { result ≡ self.number }

@@ -1,5 +1,10 @@
-//! The small types that every crate stands on: numbers of four bits, lists and bytes that take no memory,
-//! and the error for want of memory.
+//! Defines the small types that all other crates use. [`U4`] is a number from 0 to 15, [`ShortList`] and
+//! [`ByteBuffer`] are lists of a fixed capacity that need no heap memory, and [`NoMemory`] is the error of
+//! a call that runs out of memory.
+//!
+//! ```
+//! let channel = U4::new(9); // `Some`, since 9 is below 16
+//! ```
 #![tactic(auto)]
 
 pub mod byte_buffer;

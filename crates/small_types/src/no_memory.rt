@@ -1,7 +1,7 @@
-// There was no memory.
+// The error of a call that runs out of memory.
 use thiserror::Error;
 
-/// There was no memory.
+/// The call ran out of memory.
 #[derive(Clone, Copy, Debug, PartialEq, Eq, Error)]
 #[error("out of memory")]
 pub struct NoMemory;

@@ -1,11 +1,12 @@
-// Lists of fixed capacity.
+// Lists of a fixed capacity.
 ghost use Rattle.std.specs.Prelude.{◌≡◌, ◌<◌, ◌≤◌, ◌+◌, ◌==◌, [], ◌∷◌, ◌++◌, length};
 
 use arrayvec::ArrayVec;
 use std::fmt;
 use std::marker::Model;
 
-/// At most `N` items, kept in place without memory of their own. To a contract it is the list of the items.
+/// A list of at most `N` items, stored inline without heap memory. In contracts its value is the list of
+/// items.
 #[derive(Drop)]
 pub struct ShortList<T, const N: usize> {
     cells: ArrayVec<T, N>,
@@ -20,7 +21,7 @@ impl<T, const N: usize> Model for ShortList<T, N> {
 }
 
 impl<T: Copy + Default, const N: usize> ShortList<T, N> {
-    /// The empty list.
+    /// Returns an empty list.
     #[inline(always)]
     pub fn new() -> Self
         ensures { result ≡ [] }
@@ -30,7 +31,7 @@ impl<T: Copy + Default, const N: usize> ShortList<T, N> {
         }
     }
 
-    /// How many items there are, at most `N`.
+    /// Returns the number of items, at most `N`.
     #[inline(always)]
     pub fn len(&self) -> usize
         ensures value { result ≡ length self.now }
@@ -39,7 +40,7 @@ impl<T: Copy + Default, const N: usize> ShortList<T, N> {
         self.cells.len()
     }
 
-    /// Whether there is no item.
+    /// Returns whether the list is empty.
     #[inline(always)]
     pub fn is_empty(&self) -> bool
         ensures { result ≡ (length self.now == 0) }
@@ -47,7 +48,7 @@ impl<T: Copy + Default, const N: usize> ShortList<T, N> {
         self.cells.len() == 0
     }
 
-    /// The items.
+    /// Returns the items, at most `N` of them.
     #[inline(always)]
     pub fn as_slice(&self) -> &[T]
         ensures value { result.now ≡ self.now }
@@ -56,7 +57,7 @@ impl<T: Copy + Default, const N: usize> ShortList<T, N> {
         self.cells.as_slice()
     }
 
-    /// Adds an item at the end, if there are fewer than `N`.
+    /// Appends an item. The list must have fewer than `N` items.
     #[inline(always)]
     pub fn push(&mut self, item: T)
         requires { length self.old < N }
@@ -65,7 +66,7 @@ impl<T: Copy + Default, const N: usize> ShortList<T, N> {
         self.cells.push(item);
     }
 
-    /// Adds items at the end, no more than there are places left of `N`.
+    /// Appends items. The list must have room for all of them: at most `N` less its length.
     #[inline(always)]
     pub fn extend(&mut self, items: &[T])
         requires { length self.old + length items.now ≤ N }
@@ -86,27 +87,27 @@ impl<T: Copy + Default, const N: usize> ShortList<T, N> {
         }
     }
 
-    // Adds items at the end by one copy, which for a few items takes longer than adding each.
+    // Appends items with one copy. For a few items that takes longer than appending each.
     fn extend_by_copy(&mut self, items: &[T])
         requires { length self.old + length items.now ≤ N }
         ensures { self.new ≡ self.old ++ items.now }
     {
         match self.cells.try_extend_from_slice(items) {
             Ok(()) => {}
-            // There is room for the items, which is all that the copy asks.
+            // The list has room for the items, so the copy can't fail.
             Err(_) => unreachable!(),
         }
     }
 
-    /// Takes all items away.
+    /// Removes all items.
     pub fn clear(&mut self)
         ensures { self.new ≡ [] }
     {
         self.cells.clear();
     }
 
-    /// The same list again. Unlike `clone` it cannot fail. It reads item
-    /// by item, so that a short list may stay in registers.
+    /// Returns a copy of the list. Unlike `clone`, it can't fail. It reads the items one at a time, so that
+    /// a short list can remain in registers.
     #[inline(always)]
     pub fn copied(&self) -> Self
         ensures { result ≡ self.now }

@@ -1,4 +1,4 @@
-// From packets to 8-bit exclusives.
+// Joins packets to 8-bit exclusives.
 ghost use Rattle.std.specs.Prelude.{◌≡◌, ◌≤◌, IfOk, Some, None, true};
 ghost use Rattle.packet_words.specs.Words.{IsWhole};
 ghost use Rattle.ump_grammar.specs.WordFields.{type_of};
@@ -47,7 +47,8 @@ use std::marker::Model;
 use sysex8_streams::{Fed8, Streams, fed_streams_are_the_definition, read8};
 use ump_grammar::Packet;
 
-/// A join of 8-bit exclusives that is ready to begin, with all its memory. A contract sees its options.
+/// A join of 8-bit exclusives that is ready to begin and has all its memory. In contracts its value is the
+/// options.
 #[derive(Drop)]
 pub struct Sysex8Run {
     streams: Streams,
@@ -72,9 +73,10 @@ impl Model for Sysex8Run {
 }
 
 impl Sysex8Run {
-    /// Makes a join of 8-bit exclusives, of which at most `slots`, 1 to 64, are open at once, in a recording
-    /// whose words have this order. `room` is the most bytes of an exclusive, 13 to 1,048,576 (own rules). Takes
-    /// memory for each slot; `NoMemory` if there isn't that much. No other call takes any.
+    /// Creates a join of 8-bit exclusives, of which at most `slots`, 1 to 64, are open at once, in a
+    /// recording whose words have this byte order. `room` is the most bytes of an exclusive, 13 to 1,048,576
+    /// (own rules). Allocates memory for each slot. Returns `NoMemory` if there isn't enough. No other call
+    /// allocates.
     pub fn new(alloc: Global, slots: u8, order: Order, room: u32) -> Result<Sysex8Run, NoMemory>
         requires some { 1 ≤ slots }
         requires few { slots ≤ 64 }
@@ -87,8 +89,9 @@ impl Sysex8Run {
     }
 }
 
-// Puts the bytes of each whole exclusive into the lane of its group, and its line into the notes; also the
-// lines of packets that complete none, and at the end those of the exclusives that are still open.
+// Writes the bytes of each whole exclusive to its group's lane, and a line for it to the notes. It also
+// writes the lines for packets that complete no exclusive, and at the end those for the exclusives that are
+// still open.
 #[derive(Drop)]
 struct Sysex8Engine {
     streams: Streams,
@@ -132,17 +135,18 @@ impl Engine<Framed, Packet> for Sysex8Engine {
 }
 
 /// Joins the 8-bit exclusives of a recording, to its end or to the first packet that is refused (M2-104-UM,
-/// system exclusive 8-bit messages; the listing is an own rule). It puts
-/// - the bytes of each whole exclusive into the lane of its group, unless it has none, and then its line into
-///   the notes;
+/// system exclusive 8-bit messages; the listing is an own rule). It writes
+/// - the bytes of each whole exclusive to its group's lane, unless the exclusive has none, and then a line
+///   for it to the notes;
 /// - a line for each part that is left out, is stray, cuts an exclusive off or finds no slot;
-/// - at the end a line for each exclusive that is still open, by group, then stream.
+/// - at the end a line for each exclusive that is still open, in order of group, then stream.
 ///
-/// Other packets put nothing. Takes no memory.
+/// It writes nothing for other packets. The call doesn't allocate.
 ///
 /// Returns `Refused` for `Truncated`, `InputTooLong`, `BadCount`, `HighBit`, or `ExclusiveTooLong` if an
-/// exclusive has more bytes than its room, with the number of bytes before what is refused; `ReadFault`,
-/// `LaneFault` or `NoteFault` only if the count of that object rose. The output is unchanged.
+/// exclusive has more bytes than `room`, with the number of bytes before the packet or end that is refused.
+/// Returns `ReadFault`, `LaneFault` or `NoteFault` only if the fault count of that object rose. The output is
+/// unchanged.
 pub fn run_sysex8<S: Source, L: Lanes, W: Sink, N: Sink>(
     engine: Sysex8Run,
     input: &mut S,
@@ -169,7 +173,7 @@ pub fn run_sysex8<S: Source, L: Lanes, W: Sink, N: Sink>(
     )
 }
 
-// Puts the line of this kind, offset and group.
+// Writes the line with this kind, offset and group.
 fn put_kind<O: Outputs>(kind: Kind8, offset: u64, group: U4, outputs: &mut O) -> Result<(), RunEnd>
     ensures { Puts (listed (kind_text kind offset group))
         (O.places outputs.old) (O.places outputs.new) result }
@@ -178,7 +182,7 @@ fn put_kind<O: Outputs>(kind: Kind8, offset: u64, group: U4, outputs: &mut O) ->
     outputs.put_notes(line.as_slice())
 }
 
-// Puts the bytes of a whole exclusive, unless there are none.
+// Writes the bytes of a whole exclusive, unless there are none.
 fn put_piece<O: Outputs>(group: U4, bytes: &[u8], outputs: &mut O) -> Result<(), RunEnd>
     requires begun { (O.places outputs.old).begun ≡ true }
     ensures { Puts (piece_puts group bytes.now) (O.places outputs.old) (O.places outputs.new) result }
@@ -198,7 +202,7 @@ struct PartPlace {
     stream: u8,
 }
 
-// Puts the line of a whole exclusive.
+// Writes the line for a whole exclusive.
 fn put_size<O: Outputs>(place: PartPlace, size: usize, outputs: &mut O) -> Result<(), RunEnd>
     ensures { Puts (listed (whole_text place.offset place.group place.stream size))
         (O.places outputs.old) (O.places outputs.new) result }
@@ -207,7 +211,7 @@ fn put_size<O: Outputs>(place: PartPlace, size: usize, outputs: &mut O) -> Resul
     outputs.put_notes(line.as_slice())
 }
 
-// Puts the bytes of a whole exclusive, unless there are none, and its line.
+// Writes the bytes of a whole exclusive, unless there are none, and the line for it.
 fn put_whole<O: Outputs>(place: PartPlace, bytes: &[u8], outputs: &mut O) -> Result<(), RunEnd>
     requires begun { (O.places outputs.old).begun ≡ true }
     ensures { Puts (whole_puts place.offset place.group place.stream bytes.now)
@@ -217,7 +221,7 @@ fn put_whole<O: Outputs>(place: PartPlace, bytes: &[u8], outputs: &mut O) -> Res
     put_size(place, bytes.len(), outputs)
 }
 
-// Puts the line of an exclusive that is cut off, and that of the whole one that cuts it off.
+// Writes the line for an exclusive that is cut off, and the line for the whole one that cuts it off.
 fn put_cut_lines<O: Outputs>(
     cut_at: u64,
     place: PartPlace,
@@ -231,8 +235,8 @@ fn put_cut_lines<O: Outputs>(
     put_size(place, size, outputs)
 }
 
-// Puts the bytes of a whole exclusive, unless there are none, and then the line of the one that it cuts off
-// and its own.
+// Writes the bytes of a whole exclusive, unless there are none, then the line for the exclusive that it cuts
+// off, and then its own line.
 fn put_cut<O: Outputs>(
     cut_at: u64,
     place: PartPlace,
@@ -247,7 +251,7 @@ fn put_cut<O: Outputs>(
     put_cut_lines(cut_at, place, bytes.len(), outputs)
 }
 
-// Puts the result of an answer to a part of a stream.
+// Writes the result of joining a part to a stream.
 fn put_answer<O: Outputs>(fed: &Fed8<'_>, place: PartPlace, outputs: &mut O) -> Result<(), RunEnd>
     requires begun { (O.places outputs.old).begun ≡ true }
     ensures { Takes (answer_refusal place.offset (fed8_view fed.now))
@@ -265,7 +269,7 @@ fn put_answer<O: Outputs>(fed: &Fed8<'_>, place: PartPlace, outputs: &mut O) -> 
     }
 }
 
-// Takes one packet of type 5: puts the result of its part, or the line of a packet without a part.
+// Handles one packet of type 5: writes the result of its part, or the line for a packet without a part.
 fn take_data8<O: Outputs>(
     streams: &mut Streams,
     group: U4,
@@ -295,7 +299,7 @@ fn take_data8<O: Outputs>(
     }
 }
 
-// Takes one packet; one that isn't of type 5 puts nothing.
+// Handles one packet. For a packet that isn't of type 5, it writes nothing.
 fn take_packet<O: Outputs>(
     streams: &mut Streams,
     packet: &Packet,
@@ -331,7 +335,7 @@ fn list_stream<O: Outputs>(
     }
 }
 
-// Lists the exclusives of a group that are still open, by stream.
+// Lists the exclusives of a group that are still open, in order of stream.
 fn list_group<O: Outputs>(streams: &Streams, group: U4, outputs: &mut O) -> Result<(), RunEnd>
     ensures { Puts (group_puts (starts_in streams.now) group)
         (O.places outputs.old) (O.places outputs.new) result }
@@ -342,7 +346,7 @@ fn list_group<O: Outputs>(streams: &Streams, group: U4, outputs: &mut O) -> Resu
     Ok(())
 }
 
-// Lists the exclusives that are still open, by group, then stream.
+// Lists the exclusives that are still open, in order of group, then stream.
 fn list_open<O: Outputs>(streams: &Streams, outputs: &mut O) -> Result<(), RunEnd>
     ensures { Puts (open_puts (starts_in streams.now)) (O.places outputs.old) (O.places outputs.new) result }
 {

@@ -1,4 +1,6 @@
-//! The pass over the 8-bit exclusives of a recording.
+//! Runs the command `sysex8` over a whole recording: joins its 8-bit exclusives.
+//!
+//! Start with [`Sysex8Run`], whose `new` takes the options and allocates, and [`run_sysex8`].
 #![tactic(auto)]
 
 mod joining;

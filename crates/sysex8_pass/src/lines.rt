@@ -5,22 +5,22 @@ ghost use Rattle.sysex8_pass.specs.Lines.{kind_text, whole_text, word8};
 use small_types::U4;
 use text_lines::{Line, put_decimal, put_text};
 
-/// What is listed of a type 5 packet.
+/// The kind of a line for a type 5 packet.
 #[derive(Clone, Copy)]
 pub enum Kind8 {
-    /// It has no part of an 8-bit exclusive.
+    /// The packet has no part of an 8-bit exclusive.
     Other,
-    /// Its part continues or ends an exclusive, but none is begun.
+    /// The packet's part continues or ends an exclusive, but none is open.
     Stray,
-    /// The exclusive that it began was cut off.
+    /// The exclusive that the packet began was cut off.
     Cut,
-    /// It begins an exclusive, but all slots are taken.
+    /// The packet begins an exclusive, but all slots are in use.
     Full,
-    /// The exclusive that it began is open at the end.
+    /// The exclusive that the packet began is open at the end.
     Open,
 }
 
-// The word of a kind (own rule).
+// Returns the word for a kind (own rule).
 fn word(kind: Kind8) -> &'static str
     ensures { result.now ≡ word8 kind }
 {
@@ -33,8 +33,8 @@ fn word(kind: Kind8) -> &'static str
     }
 }
 
-/// Returns the line of a kind: the offset in decimal digits, in bytes from the start of the input, the group,
-/// and the kind's word (own rule).
+/// Returns the line for a kind: the offset in decimal digits, in bytes from the start of the input, the
+/// group, and the word for the kind (own rule).
 pub fn kind_line(kind: Kind8, offset: u64, group: U4) -> Line
     ensures text { result ≡ kind_text kind offset group }
     ensures some { 0 < length result }
@@ -49,8 +49,8 @@ pub fn kind_line(kind: Kind8, offset: u64, group: U4) -> Line
     line
 }
 
-/// Returns the line of a whole exclusive: the offset of its last packet, in bytes from the start of the
-/// input, the group, the stream id, and its number of bytes (own rule).
+/// Returns the line for a whole exclusive: the offset of its last packet, in bytes from the start of the
+/// input, the group, the stream id, and the number of its bytes (own rule).
 pub fn whole_line(offset: u64, group: U4, stream: u8, size: usize) -> Line
     ensures text { result ≡ whole_text offset group stream size }
     ensures some { 0 < length result }

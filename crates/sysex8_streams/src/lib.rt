@@ -1,4 +1,8 @@
-//! The 8-bit exclusives of many streams, each joined from its own packets, and cut into packets.
+//! Joins the 8-bit System Exclusive messages of many streams, each from the packets of its stream, and cuts
+//! a payload into packets.
+//!
+//! Start with [`Streams`]: `new` allocates, and `feed8` accepts one [`Part8`] and returns a [`Fed8`].
+//! [`read8`] reads the part in a packet.
 #![tactic(auto)]
 
 pub mod fed8;

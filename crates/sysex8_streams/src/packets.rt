@@ -11,10 +11,10 @@ use sysex_groups::cut;
 use ump_grammar::encoding::form_bits;
 use voice_messages::Form;
 
-/// Packet `k`, counted from 0, of an exclusive's payload, cut every thirteen bytes (M2-104-UM, system
-/// exclusive 8-bit messages): one `Complete` for up to 13 bytes, else a `Start`, `Continue`s, and an `End` of
-/// 1 to 13 bytes. An empty payload is one empty `Complete` (own rule). `None` exactly when `k` is past the
-/// last packet.
+/// Returns packet `k`, counted from 0, of an exclusive's payload, with at most thirteen bytes in each
+/// packet (M2-104-UM, system exclusive 8-bit messages), or `None` exactly if `k` is past the last packet. A
+/// payload of up to 13 bytes is one `Complete`. A longer one is a `Start`, `Continue`s, and an `End` of 1
+/// to 13 bytes. An empty payload is one empty `Complete` (own rule).
 pub fn part8(group: U4, stream: u8, payload: &[u8], k: usize) -> Option<Part8>
     ensures { result ≡ part8_at group stream payload.now k }
 {
@@ -27,14 +27,14 @@ pub fn part8(group: U4, stream: u8, payload: &[u8], k: usize) -> Option<Part8>
     })
 }
 
-// The byte at index `i`, or a zero past the last.
+// Returns the byte at index `i`, or 0 past the last byte.
 fn place(bytes: &[u8], i: usize) -> u8
     ensures { result ≡ slice_index bytes.now i }
 {
     bytes.get(i).copied().unwrap_or(0)
 }
 
-// The word of four bytes, the highest first.
+// Returns the word of four bytes, with the highest first.
 fn word_of(first: u8, second: u8, third: u8, fourth: u8) -> u32
     ensures first { field result 24 8 ≡ first }
     ensures second { field result 16 8 ≡ second }
@@ -44,7 +44,7 @@ fn word_of(first: u8, second: u8, third: u8, fourth: u8) -> u32
     u32::from_be_bytes([first, second, third, fourth])
 }
 
-// The first word of a type 5 packet, which counts its stream id as well.
+// Returns the first word of a type 5 packet, which also counts the packet's stream id.
 fn first_word(group: U4, form: Form, count: u8, stream: u8, byte: u8) -> u32
     requires { count < 16 }
     ensures kind { field result 28 4 ≡ 0x5 }
@@ -62,7 +62,7 @@ fn first_word(group: U4, form: Form, count: u8, stream: u8, byte: u8) -> u32
     ])
 }
 
-// A type 5 packet with these bytes, and zeros after them.
+// Returns a type 5 packet with these bytes, and zeros after them.
 fn packet_words(group: U4, form: Form, stream: u8, bytes: &[u8]) -> [u32; 4]
     requires { length bytes.now ≤ 13 }
     ensures four { length result ≡ 4 }
@@ -101,8 +101,8 @@ fn packet_words(group: U4, form: Form, stream: u8, bytes: &[u8]) -> [u32; 4]
     ]
 }
 
-/// The words of a type 5 packet with this part of an 8-bit exclusive, and zeros after its bytes (M2-104-UM,
-/// system exclusive 8-bit messages).
+/// Returns the words of a type 5 packet with this part of an 8-bit exclusive, and zeros after its bytes
+/// (M2-104-UM, system exclusive 8-bit messages).
 pub fn part8_words(part: &Part8) -> [u32; 4]
     ensures { Encodes8 part.now result }
 {

@@ -10,7 +10,7 @@ use ump_grammar::decoding::form_of;
 use ump_grammar::fields::{bits, byte, nibble};
 use voice_messages::Form;
 
-/// What one packet has of the exclusive of a stream, which is named by a group and a stream id.
+/// The part of a stream's exclusive in one packet. A group and a stream id name the stream.
 #[derive(Debug, PartialEq, Eq, Drop)]
 pub struct Part8 {
     /// The group.
@@ -19,12 +19,13 @@ pub struct Part8 {
     pub form: Form,
     /// The stream id, 0 to 255.
     pub stream: u8,
-    /// Its bytes, 0 to 13, each 00 to FF.
+    /// The bytes of the part, 0 to 13, each 00 to FF.
     pub bytes: ShortList<u8, 13>,
 }
 
-/// The part in the words of a type 5 packet (M2-104-UM, system exclusive 8-bit messages). `None` exactly
-/// if the form is above 3, as in mixed data, or the count, which includes the stream id, is 0 or 15.
+/// Returns the part in the words of a type 5 packet (M2-104-UM, system exclusive 8-bit messages), or `None`
+/// exactly if the form is above 3, as in mixed data, or if the count, which includes the stream id, is 0 or
+/// 15.
 pub fn read8(words: &Words) -> Option<Part8>
     requires whole { IsWhole words.now }
     requires kind { type_of words.now ≡ 0x5 }
@@ -47,7 +48,7 @@ pub fn read8(words: &Words) -> Option<Part8>
     })
 }
 
-// Bytes 4 to 16.
+// Returns bytes 4 to 16.
 fn data_places(words: &[u32]) -> [u8; 13]
     requires { length words.now ≡ 4 }
     ensures { result ≡ places_of words.now }

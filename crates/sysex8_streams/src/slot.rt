@@ -28,7 +28,7 @@ pub struct Holder {
     start: u64,
 }
 
-/// A buffer of `room` bytes, 13 or more, and the stream whose exclusive it has, if any.
+/// A buffer of `room` bytes, 13 or more, and the stream that uses it for its exclusive, if there is one.
 #[derive(Drop)]
 pub struct Slot {
     holder: Option<Holder>,
@@ -38,7 +38,7 @@ pub struct Slot {
     ghost whole_packet: { 13 ≤ room },
 }
 
-// Whether two pairs of a group and a stream id name the same stream.
+// Returns whether two pairs of a group and a stream id name the same stream.
 #[tactic(auto, using(crate::proofs::KeyLaws::key_laws))]
 fn is_same(group: U4, stream: u8, other_group: U4, other_stream: u8) -> bool
     ensures { result ≡ (key_of group stream == key_of other_group other_stream) }
@@ -55,7 +55,8 @@ impl Slot {
     ghost use Rattle.std.specs.Borrow.{sem};
     ghost use Rattle.voice_messages.specs.declared.voice2.Form.TheVariants as form;
 
-    /// Makes an idle slot, with memory for `room` bytes. `AllocError` if there isn't that much.
+    /// Creates an idle slot, with memory for `room` bytes. Returns `AllocError` if the memory can't be
+    /// allocated.
     pub fn new(alloc: Global, room: u32) -> Result<Slot, AllocError>
         requires { 13 ≤ room }
         ensures { IfOk result (λ slot. state8_of slot ≡ idle8 room) }
@@ -67,14 +68,14 @@ impl Slot {
         })
     }
 
-    /// Whether no stream has the slot.
+    /// Returns whether no stream has the slot.
     pub fn is_idle(&self) -> bool
         ensures { result ≡ is_none (slot8_of self.now) }
     {
         self.holder.is_none()
     }
 
-    /// Whether this stream has the slot.
+    /// Returns whether this stream has the slot.
     pub fn is_of(&self, group: U4, stream: u8) -> bool
         ensures { result ≡ is_slot_of (key_of group stream) (slot8_of self.now) }
     {
@@ -84,14 +85,14 @@ impl Slot {
         }
     }
 
-    /// The offset of the packet that began the exclusive; `None` exactly if the slot is idle.
+    /// Returns the offset of the packet that began the exclusive, or `None` exactly if the slot is idle.
     pub fn start(&self) -> Option<u64>
         ensures { result ≡ option_map (λ stream. stream.begun.start) (slot8_of self.now) }
     {
         self.holder.map(|holder| holder.start)
     }
 
-    /// Drops the exclusive that is begun, so that no stream has the slot. Keeps the memory.
+    /// Drops the exclusive, so that no stream has the slot. Keeps the memory.
     pub fn clear(&mut self)
         ensures { state8_of self.new ≡ idle8 self.old.room }
     {
@@ -116,14 +117,14 @@ impl Slot {
         });
     }
 
-    /// Whether the exclusive, with these bytes, would exceed its limit.
+    /// Returns whether the exclusive, with these bytes, would exceed its limit.
     fn passes_room(&self, bytes: &[u8]) -> bool
         ensures { result ≡ nat_lt self.now.room (length self.now.bytes.items + length bytes.now) }
     {
         self.bytes.len() + bytes.len() > self.room as usize
     }
 
-    /// Begins an exclusive of the stream, again if one is begun.
+    /// Begins an exclusive of the stream, also if the stream has already begun one.
     fn restart(&mut self, part: &Part8, offset: u64) -> Fed8<'_>
         requires own { IsFor (key_of part.now.group part.now.stream) (slot8_of self.old) }
         ensures answer { fed8_view result ≡ slot_answer (state8_of self.old) form.Start part.now.bytes }
@@ -138,7 +139,7 @@ impl Slot {
         }
     }
 
-    /// Takes an exclusive of one packet.
+    /// Accepts an exclusive of one packet.
     fn complete(&mut self, part: &Part8) -> Fed8<'_>
         requires own { IsFor (key_of part.now.group part.now.stream) (slot8_of self.old) }
         ensures answer { fed8_view result ≡ slot_answer (state8_of self.old) form.Complete part.now.bytes }
@@ -195,7 +196,7 @@ impl Slot {
         Fed8::Whole(self.bytes.as_slice())
     }
 
-    /// Takes one more part of the stream that has the slot; an idle slot takes that of any stream.
+    /// Accepts one more part of the stream that has the slot. An idle slot accepts a part of any stream.
     pub fn feed(&mut self, part: &Part8, offset: u64) -> Fed8<'_>
         requires own { IsFor (key_of part.now.group part.now.stream) (slot8_of self.old) }
         ensures answer { fed8_view result ≡ slot_answer (state8_of self.old) part.now.form part.now.bytes }

@@ -1,4 +1,4 @@
-// The exclusives of the streams that are begun.
+// The exclusives that streams have begun.
 ghost use Rattle.std.specs.Prelude.{◌≡◌, ◌≤◌, IfOk, is_none, length, position};
 ghost use Rattle.sysex8_streams.specs.History.{key_of};
 ghost use Rattle.sysex8_streams.specs.Slots.{slot8_of};
@@ -12,12 +12,12 @@ use std::alloc::Global;
 use std::marker::Model;
 use voice_messages::Form;
 
-/// The exclusives that streams have begun, each in a slot of its own; a stream is a group and a stream id. A
-/// contract sees, for each slot, either nothing or a stream, the offset of the packet that began its
-/// exclusive and the bytes joined so far, and beside them the limit, `room`: how many bytes an exclusive may
-/// have.
+/// The exclusives that streams have begun, each in its own slot. A stream is a group and a stream id. In
+/// contracts its value has, for each slot, either nothing or a stream, the offset of the packet that began
+/// the stream's exclusive, and the bytes joined so far. It also has the limit, `room`: the number of bytes
+/// that an exclusive may have.
 ///
-/// An exclusive of one packet of a stream that isn't begun takes no slot.
+/// An exclusive of one packet needs no slot, if its stream has none yet.
 #[derive(Drop)]
 pub struct Streams {
     slots: Vec<Slot>,
@@ -37,14 +37,14 @@ impl Model for Streams {
     ghost invariant = { λ s. All (λ slot. slot.room ≡ s.room) s.slots.items };
 }
 
-// The first slot of a stream.
+// Returns the first slot of a stream.
 fn find_stream(slots: &[Slot], group: U4, stream: u8) -> Option<usize>
     ensures { result ≡ position (λ slot. is_of (key_of group stream) (slot8_of slot)) slots.now }
 {
     slots.iter().position(|slot| slot.is_of(group, stream))
 }
 
-// The first slot that no stream has.
+// Returns the first slot that no stream has.
 fn find_idle(slots: &[Slot]) -> Option<usize>
     ensures { result ≡ position (λ slot. is_none (slot8_of slot)) slots.now }
 {
@@ -65,8 +65,8 @@ impl Streams {
     ghost use Rattle.std.specs.Borrow.{sem};
     ghost use Rattle.std.specs.Option.{option_map};
 
-    /// Makes this many slots, 1 to 64, all idle. Takes memory for `room` bytes in each, 13 to 1,048,576 (own
-    /// rules); no other call takes any. `NoMemory` if there isn't that much.
+    /// Creates this many idle slots, 1 to 64. Allocates memory for `room` bytes in each, 13 to 1,048,576
+    /// (own rules). No other call allocates memory. Returns `NoMemory` if the memory can't be allocated.
     pub fn new(alloc: Global, slots: u8, room: u32) -> Result<Streams, NoMemory>
         requires some { 1 ≤ slots }
         requires few { slots ≤ 64 }
@@ -92,8 +92,8 @@ impl Streams {
         })
     }
 
-    /// Drops the exclusives that streams have begun: all slots are idle, as `new` makes them with the same
-    /// arguments (own rule). Takes no memory.
+    /// Drops all exclusives that streams have begun: all slots are idle, as `new` creates them with the
+    /// same arguments (own rule). Allocates no memory.
     pub fn reset(&mut self)
         ensures { self.new ≡ empty_table8 (length self.old.slots) self.old.room }
     {
@@ -102,21 +102,21 @@ impl Streams {
         }
     }
 
-    /// The index of a stream's slot; `None` exactly if it has none.
+    /// Returns the index of a stream's slot, or `None` exactly if it has none.
     fn slot_of(&self, group: U4, stream: u8) -> Option<usize>
         ensures { result ≡ position (is_of (key_of group stream)) self.now.slots }
     {
         find_stream(&self.slots, group, stream)
     }
 
-    /// The index of the first slot that no stream has; `None` exactly if all are taken.
+    /// Returns the index of the first slot that no stream has, or `None` exactly if all are in use.
     fn idle_slot(&self) -> Option<usize>
         ensures { result ≡ idle_slot self.now.slots }
     {
         find_idle(&self.slots)
     }
 
-    /// Takes one more part of a stream that has no slot.
+    /// Accepts one more part of a stream that has no slot.
     fn take_unbegun(&mut self, part: &Part8, offset: u64) -> Fed8<'_>
         requires { position (is_of (key_of part.now.group part.now.stream)) self.old.slots ≡ None }
         ensures answer { fed8_view result ≡ answer8_to self.old (part_of part.now offset) }
@@ -138,7 +138,7 @@ impl Streams {
         }
     }
 
-    /// Takes one more part of a stream, with its packet's offset (M2-104-UM, system exclusive 8-bit
+    /// Accepts one more part of a stream, with the packet's offset (M2-104-UM, system exclusive 8-bit
     /// messages). The offset may be any number; it is returned as the start of the exclusive that the part
     /// begins. `Whole` and `RestartedWhole` lend the joined bytes. `Full` changes nothing, and no part
     /// changes another stream.
@@ -155,7 +155,8 @@ impl Streams {
         }
     }
 
-    /// The offset of the packet that began the stream's exclusive; `None` exactly if the stream isn't begun.
+    /// Returns the offset of the packet that began the stream's exclusive, or `None` exactly if the stream
+    /// has begun none.
     pub fn begun8_at(&self, group: U4, stream: u8) -> Option<u64>
         ensures { result ≡ option_map (λ begun. begun.start) (begun8_in self.now (key_of group stream)) }
     {

@@ -30,7 +30,7 @@ use crate::reserved::append;
 use std::alloc::{AllocError, Global};
 use voice_messages::{END_OF_EXCLUSIVE, Form, START_OF_EXCLUSIVE};
 
-/// The exclusive that a group has open, if any. The bytes always begin with F0; F7 is added after them at the
+/// The open exclusive of a group, if there is one. The bytes always begin with F0, and F7 is added at the
 /// end. There is memory for `room` bytes between the two.
 #[derive(Drop)]
 pub struct Buffer {
@@ -43,7 +43,7 @@ pub struct Buffer {
     ghost data_bytes: { ForSome start (λ _. IsData (drop 1 bytes.items)) },
 }
 
-/// Ends the exclusive that begins with F0: adds its last bytes and F7.
+/// Ends the exclusive that begins with F0: appends its last bytes and F7.
 fn close(bytes: &mut Vec<u8>, last: &[u8])
     requires begins { take 1 bytes.old.items ≡ 240 ∷ [] }
     requires room { vec_len bytes.old + length last.now + 1 ≤ vec_capacity bytes.old }
@@ -60,7 +60,7 @@ impl Buffer {
     ghost use Rattle.std.specs.Option.{option_map};
     ghost use Rattle.std.specs.Borrow.{sem};
 
-    /// A buffer in which nothing is open, with memory for `room` bytes between F0 and F7.
+    /// Creates a buffer with nothing open, and with memory for `room` bytes between F0 and F7.
     pub fn new(alloc: Global, room: u32) -> Result<Buffer, AllocError>
         requires { 6 ≤ room }
         ensures { IfOk result (λ buffer. state_of buffer ≡ idle room) }
@@ -74,14 +74,14 @@ impl Buffer {
         })
     }
 
-    /// The offset of the start of the open exclusive.
+    /// Returns the offset at which the open exclusive starts.
     pub fn begun_at(&self) -> Option<u64>
         ensures { result ≡ option_map (λ begun. begun.start) (state_of self.now).begun }
     {
         self.start
     }
 
-    /// Drops what was open, except for F0.
+    /// Drops the open exclusive. Only F0 remains in the buffer.
     pub fn clear(&mut self)
         ensures state { state_of self.new ≡ idle (state_of self.old).room }
         ensures bytes { self.new.bytes.items ≡ 240 ∷ [] }
@@ -90,12 +90,12 @@ impl Buffer {
         self.bytes.truncate(1);
     }
 
-    /// Whether the open exclusive, with these bytes, would exceed its limit.
+    /// Returns whether the open exclusive, with these bytes, would exceed its limit.
     #[inline(always)]
     fn passes_room(&self, bytes: &[u8]) -> bool
         ensures { result ≡ nat_lt (self.now.room + 1) (length self.now.bytes.items + length bytes.now) }
     {
-        // F0 is in the buffer too.
+        // The buffer also has F0.
         self.bytes.len() + bytes.len() > self.room as usize + 1
     }
 
@@ -118,7 +118,7 @@ impl Buffer {
         }
     }
 
-    /// Takes an exclusive of one packet.
+    /// Accepts an exclusive of one packet.
     fn complete(&mut self, bytes: &[u8]) -> Fed<'_>
         requires few { length bytes.now ≤ 6 }
         requires data_bytes { IsData bytes.now }
@@ -178,7 +178,7 @@ impl Buffer {
         Fed::Whole(self.bytes.as_slice())
     }
 
-    /// Whether a part ends an exclusive, and its bytes are within the limit.
+    /// Returns whether a part ends an exclusive and its bytes are within the limit.
     pub fn ends(&self, form: Form, bytes: &[u8]) -> bool
         ensures { result ≡ is_some (ended_by (Some self.now.room) form
             (option_map (λ begun. begun.bytes) (state_of self.now).begun) bytes.now) }
@@ -190,7 +190,7 @@ impl Buffer {
         }
     }
 
-    /// Whether a Continue with these bytes is held: then they are added.
+    /// Returns whether a Continue with these bytes is held. If so, appends them.
     #[inline(always)]
     pub fn holds(&mut self, bytes: &[u8]) -> bool
         requires few { length bytes.now ≤ 6 }
@@ -208,7 +208,7 @@ impl Buffer {
         true
     }
 
-    /// Takes one more part of the group.
+    /// Accepts one more part of the group.
     pub fn feed(&mut self, form: Form, bytes: &[u8], offset: u64) -> Fed<'_>
         requires few { length bytes.now ≤ 6 }
         requires data_bytes { IsData bytes.now }

@@ -1,4 +1,4 @@
-// A payload cut into packets.
+// Cuts a payload into packets.
 ghost use Rattle.std.specs.Prelude.{◌≡◌, ◌<◌};
 ghost use Rattle.std.specs.Fork.{slice_chunk};
 ghost use Rattle.sysex_groups.specs.Cut.{cut_packet, part_at};
@@ -6,7 +6,7 @@ ghost use Rattle.sysex_groups.specs.Cut.{cut_packet, part_at};
 use small_types::ShortList;
 use voice_messages::Form;
 
-/// The bytes of packet `k`.
+/// Returns the bytes of packet `k`.
 #[inline(always)]
 fn bytes_of<const N: usize>(payload: &[u8], k: usize) -> ShortList<u8, N>
     ensures { result ≡ slice_chunk payload.now N k }
@@ -18,10 +18,10 @@ fn bytes_of<const N: usize>(payload: &[u8], k: usize) -> ShortList<u8, N>
     bytes
 }
 
-/// Packet `k` (counted from 0) of an exclusive's payload, cut every `N` bytes (M2-104-UM, system exclusive
-/// messages): one `Complete` for up to `N` bytes, else a `Start`, `Continue`s, and an `End` of 1 to `N`
-/// bytes. An empty payload is one empty `Complete` (own rule). `None` exactly when `k` is past the last
-/// packet.
+/// Returns packet `k`, counted from 0, of an exclusive's payload, with at most `N` bytes in each packet
+/// (M2-104-UM, system exclusive messages), or `None` exactly if `k` is past the last packet. A payload of
+/// up to `N` bytes is one `Complete`. A longer one is a `Start`, `Continue`s, and an `End` of 1 to `N`
+/// bytes. An empty payload is one empty `Complete` (own rule).
 #[inline(always)]
 pub fn cut<const N: usize>(payload: &[u8], k: usize) -> Option<(Form, ShortList<u8, N>)>
     requires { 0 < N }
@@ -35,8 +35,8 @@ pub fn cut<const N: usize>(payload: &[u8], k: usize) -> Option<(Form, ShortList<
     }
 }
 
-/// Packet `k` (counted from 0) of an exclusive's payload, the bytes between F0 and F7, cut every six bytes
-/// (M2-104-UM, system exclusive 7-bit messages), as `cut` does it.
+/// Returns packet `k`, counted from 0, of an exclusive's payload, the bytes between F0 and F7, with at most
+/// six bytes in each packet (M2-104-UM, system exclusive 7-bit messages). It cuts as `cut` does.
 pub fn part(payload: &[u8], k: usize) -> Option<(Form, ShortList<u8, 6>)>
     ensures { result ≡ part_at payload.now k }
 {

@@ -10,11 +10,11 @@ use std::alloc::Global;
 use std::marker::Model;
 use voice_messages::Form;
 
-/// The exclusives that sixteen groups have open, each in a buffer of its own. A contract sees, for each
-/// group, either nothing or the offset of the packet that began the exclusive and the bytes joined so far,
-/// and beside them the limit, `room`: how many bytes an exclusive may have between F0 and F7.
+/// The open exclusives of sixteen groups, each in its own buffer. In contracts its value has, for each
+/// group, either nothing or the offset of the packet that began the exclusive, with the bytes joined so
+/// far. It also has the limit, `room`: the number of bytes that an exclusive may have between F0 and F7.
 ///
-/// Packets of other kinds don't end an exclusive (own rule), so they aren't passed to it.
+/// Packets of other kinds don't end an exclusive (own rule), so don't pass them.
 #[derive(Drop)]
 pub struct Groups {
     buffers: Vec<Buffer>,
@@ -44,8 +44,9 @@ impl Groups {
     ghost use Rattle.std.specs.Borrow.{sem};
     ghost use Rattle.std.specs.Option.{option_map};
 
-    /// Sixteen groups in which nothing is open. Reserves memory for `room` bytes between F0 and F7 in each, 6
-    /// to 1,048,576 (own rule); no other call takes any. `NoMemory` when there isn't that much.
+    /// Creates sixteen groups with nothing open. Reserves memory for `room` bytes between F0 and F7 in
+    /// each, 6 to 1,048,576 (own rule). No other call allocates memory. Returns `NoMemory` if the memory
+    /// can't be allocated.
     pub fn new(alloc: Global, room: u32) -> Result<Groups, NoMemory>
         requires least { 6 ≤ room }
         requires most { room ≤ 1048576 }
@@ -65,8 +66,8 @@ impl Groups {
         Ok(Groups { buffers, room })
     }
 
-    /// Drops what the groups have open: nothing is open then, as in new groups of the same limit (own rule).
-    /// Takes no memory.
+    /// Drops all open exclusives, so that nothing is open, as in new groups with the same limit (own rule).
+    /// Allocates no memory.
     pub fn reset(&mut self)
         ensures { self.new ≡ empty_table self.old.room }
     {
@@ -75,10 +76,10 @@ impl Groups {
         }
     }
 
-    /// Takes one more part of a group's exclusive: the payload bytes of a packet, at most 6, and the packet's
-    /// offset (M2-104-UM, system exclusive 7-bit messages). The offset, in bytes from the start of the input,
-    /// is only kept, and given back as the start of what the packet begins; any number will do. What is lent
-    /// is the exclusive from F0 to F7. All other groups are unchanged.
+    /// Accepts one more part of a group's exclusive: the payload bytes of a packet, at most 6, and the
+    /// packet's offset (M2-104-UM, system exclusive 7-bit messages). The offset, in bytes from the start of
+    /// the input, is only stored and returned as the start of the exclusive that the packet begins; any
+    /// number will do. The result lends the exclusive from F0 to F7. All other groups are unchanged.
     pub fn feed(&mut self, group: U4, form: Form, bytes: &[u8], offset: u64) -> Fed<'_>
         requires few { length bytes.now ≤ 6 }
         requires data_bytes { IsData bytes.now }
@@ -93,9 +94,9 @@ impl Groups {
         buffer.feed(form, bytes, offset)
     }
 
-    /// Whether a Continue of six bytes is held, so that `feed` would answer `Held` for it: an exclusive of
-    /// the group is open, and stays within the limit (M2-104-UM, system exclusive 7-bit messages). Then the
-    /// bytes are added, as `feed` adds them, whatever the offset; else nothing changes.
+    /// Returns whether a Continue of six bytes is held, so that `feed` would return `Held` for it: an
+    /// exclusive of the group is open, and stays within the limit (M2-104-UM, system exclusive 7-bit
+    /// messages). If so, appends the bytes as `feed` does, whatever the offset. Otherwise nothing changes.
     #[inline(always)]
     pub fn holds(&mut self, group: U4, bytes: &[u8; 6]) -> bool
         requires data_bytes { IsData bytes.now }
@@ -108,8 +109,8 @@ impl Groups {
         self.buffers[group.get() as usize].holds(bytes)
     }
 
-    /// Whether a part ends an exclusive of its group, so that `feed` would lend it: it is Complete, or it is
-    /// the End of one that is open and that has no more bytes than the limit.
+    /// Returns whether a part ends an exclusive of its group, so that `feed` would lend the exclusive: the
+    /// part is Complete, or it is the End of an open exclusive that has no more bytes than the limit.
     pub fn ends(&self, group: U4, form: Form, bytes: &[u8]) -> bool
         ensures { result ≡ is_some (ended_by (Some self.now.room) form
             (option_map (λ begun. begun.bytes) (begun_in self.now group)) bytes.now) }
@@ -117,7 +118,8 @@ impl Groups {
         self.buffers[group.get() as usize].ends(form, bytes)
     }
 
-    /// The offset of the packet that began the group's exclusive; `None` exactly when nothing is open.
+    /// Returns the offset of the packet that began the group's exclusive, or `None` exactly if nothing is
+    /// open.
     pub fn begun_at(&self, group: U4) -> Option<u64>
         ensures { result ≡ option_map (λ begun. begun.start) (begun_in self.now group) }
     {

@@ -1,4 +1,8 @@
-//! The exclusives of sixteen groups, each joined from its own packets.
+//! Joins the System Exclusive messages of sixteen groups, each from the packets of its group, and cuts a
+//! payload into packets.
+//!
+//! Start with [`Groups`]: `new` allocates, and `feed` accepts one part and returns a [`Fed`]. [`part`] cuts
+//! a payload.
 #![tactic(auto)]
 
 mod buffer;

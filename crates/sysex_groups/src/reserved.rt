@@ -1,7 +1,7 @@
-// Bytes for which memory is reserved.
+// Bytes for which memory has been reserved.
 ghost use Rattle.std.specs.Prelude.{◌≡◌, ◌≤◌, ◌+◌, ◌++◌, length, vec_len, vec_capacity};
 
-/// Adds bytes for which memory is reserved; takes none.
+/// Appends bytes for which memory has been reserved. Allocates none.
 #[inline]
 pub fn append(bytes: &mut Vec<u8>, more: &[u8])
     requires { vec_len bytes.old + length more.now ≤ vec_capacity bytes.old }
@@ -10,7 +10,7 @@ pub fn append(bytes: &mut Vec<u8>, more: &[u8])
 {
     match bytes.extend_from_slice(more) {
         Ok(()) => {}
-        // Memory is reserved for these bytes, so the call takes none.
+        // Memory for these bytes has been reserved, so the call allocates none and can't fail.
         Err(_) => unreachable!(),
     }
 }

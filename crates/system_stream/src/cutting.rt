@@ -1,4 +1,4 @@
-// A text cut into packets.
+// Cuts a text into packets.
 ghost use Rattle.std.specs.Prelude.{◌≡◌, ◌<◌, ◌≤◌, length, IfSome};
 ghost use Rattle.std.specs.Fork.{slice_chunk};
 ghost use Rattle.ump_grammar.specs.Ranges.{IsPacket};
@@ -11,18 +11,20 @@ use crate::writing::write;
 use ump_grammar::Packet;
 use voice_messages::Form;
 
-/// How many packets a text has (M2-104-UM, UMP stream messages): one
-/// for every 14 bytes, or for every 13 of a block's name.
+/// Returns the number of packets for a text (M2-104-UM, UMP stream messages): one for every 14 bytes, or
+/// for every 13 bytes of a block's name.
 pub fn packet_count(kind: TextKind, text: &[u8]) -> usize
     ensures { result ≡ part_count kind text.now }
 {
     text.len().div_ceil(kind.part_size())
 }
 
-/// Packet `k` (counted from 0) of a text, which has at least one byte and is within the limit of its kind
-/// (M2-104-UM, UMP stream messages). A text is cut every 14 bytes, a block's name every 13, and zeros fill
-/// the last packet; a cut may fall inside a character (own rule). `block` is the number of the function
-/// block, and is used for a block's name only. `None` exactly when `k` is past the last packet.
+/// Returns packet `k`, counted from 0, of a text (M2-104-UM, UMP stream messages), or `None` exactly if `k`
+/// is past the last packet. The text has at least one byte and is within the limit of its kind.
+///
+/// Each packet has 14 bytes of the text, or 13 bytes of a block's name, and zeros fill the last packet. A
+/// cut may fall inside a character (own rule). `block` is the number of the function block. Only a block's
+/// name uses it.
 pub fn cut_text(kind: TextKind, block: u8, text: &[u8], k: usize) -> Option<Packet>
     requires some { 0 < length text.now }
     requires limit { length text.now ≤ limit_of kind }
@@ -52,7 +54,7 @@ pub fn cut_text(kind: TextKind, block: u8, text: &[u8], k: usize) -> Option<Pack
     Some(write(&message))
 }
 
-// The bytes that are cut off for packet `k`.
+// Returns the bytes of the text for packet `k`.
 fn chunk<const N: usize>(text: &[u8], k: usize) -> &[u8]
     ensures chunk { result.now ≡ slice_chunk text.now N k }
     ensures few { length result.now ≤ N }
@@ -62,7 +64,7 @@ fn chunk<const N: usize>(text: &[u8], k: usize) -> &[u8]
     &text[start..start + count]
 }
 
-// The bytes of packet `k`, filled with zeros.
+// Returns the bytes of the text for packet `k`, filled with zeros.
 fn part_bytes<const N: usize>(text: &[u8], k: usize) -> [u8; N]
     ensures { result ≡ bytes_at N text.now k }
 {

@@ -1,4 +1,4 @@
-// The parts of a text joined again.
+// Joins the parts of a text.
 ghost use Rattle.std.specs.Prelude.{◌≡◌, IsTrue, is_some};
 
 use crate::joined::Joined;
@@ -7,9 +7,9 @@ use small_types::ShortList;
 use std::marker::Model;
 use voice_messages::Form;
 
-/// Joins the texts of one kind from the parts in their packets (M2-104-UM, UMP stream messages), without
-/// memory from an allocator. A contract sees it as the kind, and either nothing or the block that the open
-/// text's parts name together with the bytes joined so far.
+/// Joins texts of one kind from the parts in their packets (M2-104-UM, UMP stream messages), without heap
+/// memory. In contracts its value is the kind, and the open text if there is one: the block that its parts
+/// name, and the bytes joined so far.
 #[derive(Drop)]
 pub struct TextJoin {
     kind: TextKind,
@@ -37,7 +37,7 @@ impl TextJoin {
     ghost use Rattle.system_stream.specs.Lend.{KeepsJoining};
     ghost use Rattle.voice_messages.specs.declared.voice2.Form.TheVariants as form;
 
-    /// A joiner of one kind of text, with no text open.
+    /// Creates a joiner for one kind of text, with no text open.
     pub fn new(kind: TextKind) -> TextJoin
         ensures { result ≡ idle kind }
     {
@@ -48,9 +48,12 @@ impl TextJoin {
         }
     }
 
-    /// Takes one more part: its bytes, including the zeros that fill it, and the number of the block that it
-    /// names; for a kind whose packets name none, always the same number. A `Complete` or `Start` begins a
-    /// new text, and gives no answer for the one that it replaces. After `Whole` and `Bad` nothing is open.
+    /// Joins one more part. `bytes` are the bytes of the part, including the zeros that fill it. `block` is
+    /// the number of the block that the part names; if packets of this kind name no block, always pass the
+    /// same number.
+    ///
+    /// A `Complete` or `Start` begins a new text and silently replaces an open one. After `Whole` and `Bad`
+    /// no text is open.
     pub fn part(&mut self, form: Form, block: u8, bytes: &[u8]) -> Joined<'_>
         ensures answer { joined_view result ≡
             text_answer self.old (record { form = form; block = block; bytes = bytes.now }) }
@@ -66,8 +69,8 @@ impl TextJoin {
         }
     }
 
-    /// Joins a part to the text that it belongs to, and says whether there is one and it stays within the
-    /// limit. If not, nothing is open afterwards.
+    /// Appends a part to the text that it belongs to. Returns whether there is such a text and it stays
+    /// within the limit. If not, no text is open afterwards.
     fn append(&mut self, form: Form, block: u8, bytes: &[u8]) -> bool
         ensures joined { result ≡
             is_some (text_with self.old (record { form = form; block = block; bytes = bytes.now })) }
@@ -91,7 +94,7 @@ impl TextJoin {
         true
     }
 
-    /// Ends the text that is open.
+    /// Ends the open text.
     fn finish(&mut self) -> Joined<'_>
         requires { IsTrue (is_some self.old.text) }
         ensures answer { joined_view result ≡

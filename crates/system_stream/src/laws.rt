@@ -1,4 +1,4 @@
-// Laws over the definitions alone.
+// Laws that follow from the definitions alone.
 ghost use Rattle.std.specs.Prelude.{
   ◌≡◌,
   ◌≢◌,
@@ -24,7 +24,7 @@ ghost use Rattle.system_stream.specs.Texts.{is_text, limit_of};
 ghost use Rattle.system_stream.specs.declared.message.StreamMessage.{StreamMessage};
 ghost use Rattle.system_stream.specs.declared.texts.TextKind.{TextKind};
 
-/// The packet of a message whose fields fit their places is read as that message.
+/// Proves that the packet of a message is read as that message, if its fields fit their places.
 pub fn written_messages_are_read()
     ensures format { (message : StreamMessage) → IsWritten message →
         has_bad_format (packet_of message) ≡ false }
@@ -32,8 +32,8 @@ pub fn written_messages_are_read()
         message_in (packet_of message) ≡ message }
 {}
 
-/// Joining any parts of a kind, one after the other, agrees with the definition that looks back over them: on
-/// which text is open, and on the answer to one more part.
+/// Proves that joining any parts of a kind, one after the other, agrees with the definition that looks back
+/// over all of them: on which text is open, and on the result of one more part.
 pub fn joined_parts_are_the_definition()
     ensures open_text { (kind : TextKind) (past : List Part) →
         (state_over kind past).text ≡ opened_text kind past }
@@ -41,8 +41,9 @@ pub fn joined_parts_are_the_definition()
         text_answer (state_over kind past) part ≡ answer_at kind past part }
 {}
 
-/// A text that doesn't end in a zero byte, and whose bytes are a text of its kind, is joined again from the
-/// packets into which it is cut: the last one gives it, and those before are held, whatever came before them.
+/// Proves that the packets into which a text is cut are joined to that text again, if the text doesn't end
+/// in a zero byte and its bytes are a text of its kind. The last packet returns the text, and the packets
+/// before it are stored, whatever came before them.
 pub fn cut_text_is_joined()
     ensures { (kind : TextKind) (block : ℕ) (text : List ℕ) →
         0 < length text → length text ≤ limit_of kind →
@@ -52,7 +53,7 @@ pub fn cut_text_is_joined()
         (if k + 1 == part_count kind text then whole text else held) }
 {}
 
-/// The packets into which a text is cut are read as its parts.
+/// Proves that the packets into which a text is cut are read as its parts.
 pub fn cut_packets_are_read()
     ensures { (kind : TextKind) (block : ℕ) (text : List ℕ) → block < 256 → All (λ byte. byte < 256) text →
         (k : ℕ) → k < part_count kind text →

@@ -1,4 +1,8 @@
-//! Stream messages and their texts.
+//! Reads and writes the stream messages of the Universal MIDI Packet format, and cuts and joins their
+//! texts.
+//!
+//! Start with [`StreamMessage`], and with [`read`] and [`write`]. [`TextJoin`] joins a text from its
+//! packets, and [`cut_text`] cuts a text into packets.
 #![tactic(auto)]
 
 pub mod cutting;

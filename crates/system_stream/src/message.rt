@@ -2,20 +2,20 @@
 use thiserror::Error;
 use voice_messages::Form;
 
-/// What a stream packet says (M2-104-UM, UMP stream messages).
+/// The message in a stream packet (M2-104-UM, UMP stream messages).
 #[derive(Clone, Copy, Debug, PartialEq, Eq)]
 pub enum StreamMessage {
-    /// Endpoint Discovery, with the version of the format that the sender uses, and the filter: bit 0 asks
-    /// for `Info`, bit 1 for `Identity`, bit 2 for the name, bit 3 for the product id, bit 4 for
-    /// `ConfigNotice`.
+    /// Endpoint Discovery, with the version of the format that the sender uses and a filter. In the filter,
+    /// bit 0 asks for `Info`, bit 1 for `Identity`, bit 2 for the name, bit 3 for the product id and bit 4
+    /// for `ConfigNotice`.
     Discovery {
         major: u8,
         minor: u8,
         filter: u8,
     },
-    /// Endpoint Info, with the version of the format and the number of function blocks, 0 to 127. They are
-    /// `fixed` if they don't change. `midi1` and `midi2` are the protocols that the endpoint supports,
-    /// `receives_jr` and `sends_jr` whether it receives and sends JR Timestamps.
+    /// Endpoint Info, with the version of the format and the number of function blocks, 0 to 127. `fixed`
+    /// says that the blocks don't change. `midi1` and `midi2` are the protocols that the endpoint supports.
+    /// `receives_jr` and `sends_jr` say whether it receives and sends JR Timestamps.
     Info {
         major: u8,
         minor: u8,
@@ -26,8 +26,8 @@ pub enum StreamMessage {
         receives_jr: bool,
         sends_jr: bool,
     },
-    /// Device Identity, the bytes as they stand in the packet: family
-    /// and model with the low seven bits first.
+    /// Device Identity, with the bytes as they are in the packet: the family and the model have their low
+    /// seven bits first.
     Identity {
         manufacturer: [u8; 3],
         family: [u8; 2],
@@ -44,8 +44,8 @@ pub enum StreamMessage {
         form: Form,
         text: [u8; 14],
     },
-    /// Stream Configuration Request: protocol 1 is MIDI 1.0, 2 is MIDI 2.0, and `jr` has the bits for JR
-    /// Timestamps, bit 1 to receive them and bit 0 to send them.
+    /// Stream Configuration Request: protocol 1 is MIDI 1.0, 2 is MIDI 2.0. `jr` has the bits for JR
+    /// Timestamps: bit 1 to receive them and bit 0 to send them.
     ConfigRequest {
         protocol: u8,
         jr: u8,
@@ -55,18 +55,22 @@ pub enum StreamMessage {
         protocol: u8,
         jr: u8,
     },
-    /// Function Block Discovery of one block, or of all if `block` is 255. In the filter bit 0 asks for
-    /// `BlockInfo`, bit 1 for the name.
+    /// Function Block Discovery for one block, or for all blocks if `block` is 255. In the filter, bit 0
+    /// asks for `BlockInfo` and bit 1 for the name.
     BlockDiscovery {
         block: u8,
         filter: u8,
     },
-    /// Function Block Info of the block of this number, 0 to 127. `hint`, 0 to 3, is what it mainly does: 0
-    /// undeclared, 1 receives, 2 sends, 3 both. `midi1`, 0 to 3, is its MIDI 1.0 port: 0 none, 1
-    /// one without a limit of speed, 2 one at 31.25 kbit/s. `direction`, 0 to 3, is which way its messages
-    /// go: 1 it only receives, 2 it only sends, 3 both. `first` is its first group, counted from 0, `count`
-    /// the number of its groups, `ci` the version of MIDI-CI, 0 for none, and `sysex8` how many System
-    /// Exclusive 8 streams it takes at a time, 0 for none.
+    /// Function Block Info for the block with this number, 0 to 127.
+    ///
+    /// * `hint`, 0 to 3, is the block's main use: 0 undeclared, 1 it receives, 2 it sends, 3 both.
+    /// * `midi1`, 0 to 3, is its MIDI 1.0 port: 0 none, 1 one without a limit of speed, 2 one at 31.25
+    ///   kbit/s.
+    /// * `direction`, 0 to 3, is the direction of its messages: 1 it only receives, 2 it only sends, 3
+    ///   both.
+    /// * `first` is its first group, counted from 0, and `count` is the number of its groups.
+    /// * `ci` is the version of MIDI-CI, 0 for none.
+    /// * `sysex8` is the number of System Exclusive 8 streams that it accepts at a time, 0 for none.
     BlockInfo {
         active: bool,
         block: u8,
@@ -88,11 +92,11 @@ pub enum StreamMessage {
     StartClip,
     /// End of Clip.
     EndClip,
-    /// A status that has no row.
+    /// A message whose status has no row.
     Other,
 }
 
-/// A message of one packet has a format other than 0 (M2-104-UM, UMP stream messages).
+/// The format isn't 0, but the message has only one packet (M2-104-UM, UMP stream messages).
 #[derive(Clone, Copy, Debug, PartialEq, Eq, Error)]
 #[error("a stream message of one packet has a format other than complete")]
 pub struct BadFormat;

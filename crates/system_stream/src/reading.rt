@@ -1,4 +1,4 @@
-// From stream packets to messages.
+// Reads stream packets as messages.
 ghost use Rattle.std.specs.Prelude.{◌≡◌, ◌<◌, ◌∷◌, ◌++◌, []};
 ghost use Rattle.ump_grammar.specs.WordFields.{field};
 ghost use Rattle.system_stream.specs.Layout.{
@@ -17,9 +17,9 @@ use ump_grammar::decoding::form_of;
 use ump_grammar::fields::{bits, byte};
 use voice_messages::Form;
 
-/// Reads the message of a stream packet (M2-104-UM, UMP stream messages). Returns `Err(BadFormat)` exactly
-/// when the status is that of a message of one packet and the format isn't 0. A status without a row is read
-/// as `Other`, and so is a packet that isn't a stream packet.
+/// Returns the message of a stream packet (M2-104-UM, UMP stream messages). Returns `Err(BadFormat)`
+/// exactly if messages with this status have one packet and the format isn't 0. If the status has no row,
+/// or if the packet isn't a stream packet, the message is `Other`.
 pub fn read(packet: &Packet) -> Result<StreamMessage, BadFormat>
     ensures { Reads packet.now result }
 {
@@ -41,7 +41,7 @@ pub fn read(packet: &Packet) -> Result<StreamMessage, BadFormat>
     Ok(message(*format, *status, low, *second, *third, *fourth))
 }
 
-// Whether the status is that of a message of one packet.
+// Returns whether messages with this status have one packet.
 fn has_one_packet(status: u16) -> bool
     ensures { result ≡ has_one_packet status }
 {
@@ -94,14 +94,14 @@ fn message(format: u8, status: u16, low: u32, second: u32, third: u32, fourth: u
     }
 }
 
-// The form of a format, which has two bits: 0 to 3.
+// Returns the form of a format, which has two bits: 0 to 3.
 fn form(format: u8) -> Form
     ensures { result ≡ form_at format }
 {
     form_of(u32::from(format)).unwrap_or(Form::End)
 }
 
-// The field of one bit.
+// Returns the field of one bit.
 fn flag(word: u32, low: u32) -> bool
     requires { low < 32 }
     ensures { result ≡ is_flag word low }
@@ -161,7 +161,7 @@ fn block_info(low: u32, second: u32) -> StreamMessage
     }
 }
 
-// The text bytes from byte 3 on.
+// Returns the text bytes, from byte 3 on.
 fn name_bytes(low: u32, second: u32, third: u32, fourth: u32) -> [u8; 14]
     ensures { result ≡
         field low 8 8 ∷ field low 0 8 ∷ word_bytes second ++ word_bytes third ++ word_bytes fourth }
@@ -171,7 +171,7 @@ fn name_bytes(low: u32, second: u32, third: u32, fourth: u32) -> [u8; 14]
     bytes
 }
 
-// The text bytes from byte 4 on.
+// Returns the text bytes, from byte 4 on.
 fn block_name_bytes(low: u32, second: u32, third: u32, fourth: u32) -> [u8; 13]
     ensures { result ≡ field low 0 8 ∷ word_bytes second ++ word_bytes third ++ word_bytes fourth }
 {

@@ -10,7 +10,7 @@ ghost use Rattle.system_stream.specs.Texts.{
   without_trailing_zeros as trimmed,
 };
 
-/// A kind of text that comes in stream packets (M2-104-UM, UMP stream messages).
+/// A kind of text in stream packets (M2-104-UM, UMP stream messages).
 #[derive(Clone, Copy, Debug, PartialEq, Eq)]
 pub enum TextKind {
     /// Endpoint Name Notification: up to 98 bytes of UTF-8.
@@ -22,7 +22,7 @@ pub enum TextKind {
 }
 
 impl TextKind {
-    /// The most bytes that a text may have, including the zeros that fill its last packet.
+    /// Returns the maximum size of a text, in bytes, including the zeros that fill its last packet.
     pub fn limit(self) -> usize
         ensures value { result ≡ limit_of self }
         ensures most { limit_of self ≤ 98 }
@@ -34,7 +34,7 @@ impl TextKind {
         }
     }
 
-    /// How many bytes of a text each packet carries.
+    /// Returns the number of bytes of a text in each packet.
     pub fn part_size(self) -> usize
         ensures value { result ≡ part_size_of self }
         ensures some { 0 < part_size_of self }
@@ -45,7 +45,7 @@ impl TextKind {
         }
     }
 
-    /// Whether the bytes are a text of the kind: UTF-8, or for a product id bytes of 32 to 126.
+    /// Returns whether the bytes are a text of this kind: UTF-8, or for a product id bytes of 32 to 126.
     pub fn is_text(self, bytes: &[u8]) -> bool
         ensures { result ≡ is_text_of self bytes.now }
     {
@@ -62,14 +62,14 @@ fn is_utf8(bytes: &[u8]) -> bool
     str::from_utf8(bytes).is_ok()
 }
 
-// Whether each byte is a printable character of ASCII.
+// Returns whether each byte is a printable ASCII character.
 fn is_printable(bytes: &[u8]) -> bool
     ensures { result ≡ list_all is_printable_byte bytes.now }
 {
     bytes.iter().all(|byte| *byte >= 32 && *byte <= 126)
 }
 
-/// The bytes up to the last one that isn't zero.
+/// Returns the bytes up to the last one that isn't zero.
 pub(crate) fn without_trailing_zeros(bytes: &[u8]) -> &[u8]
     ensures { result.now ≡ trimmed bytes.now }
 {

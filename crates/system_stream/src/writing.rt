@@ -1,4 +1,4 @@
-// From messages to stream packets.
+// Writes messages as stream packets.
 ghost use Rattle.std.specs.Prelude.{◌≡◌, ◌<◌, ◌≤◌, ◌+◌, ◌*◌, ◌^◌, length, slice_index};
 ghost use Rattle.ump_grammar.specs.Ranges.{IsPacket};
 ghost use Rattle.ump_grammar.specs.Spelling.{form_number};
@@ -18,8 +18,8 @@ use ump_grammar::Packet;
 use ump_grammar::encoding::form_bits;
 use voice_messages::Form;
 
-/// The packet of a message that isn't `Other` (M2-104-UM, UMP stream messages), with zeros in the places that
-/// its row doesn't name. Each field of the message is in its range.
+/// Returns the packet of a message other than `Other` (M2-104-UM, UMP stream messages), with zeros in the
+/// places that its row doesn't name. Each field of the message must be in its range.
 pub fn write(message: &StreamMessage) -> Packet
     requires { FitsPlaces message.now }
     ensures packet { result ≡ packet_of message.now }
@@ -74,12 +74,12 @@ pub fn write(message: &StreamMessage) -> Packet
         }
         StreamMessage::StartClip => short(0x020, 0, 0),
         StreamMessage::EndClip => short(0x021, 0, 0),
-        // `Other` has no row and so no packet: the contract asks for another message.
+        // `Other` has no row and so no packet. The contract excludes it.
         StreamMessage::Other => unreachable!(),
     }
 }
 
-// Word 2 of Endpoint Info.
+// Returns word 2 of Endpoint Info.
 fn info_word(
     fixed: bool,
     blocks: u8,
@@ -100,7 +100,7 @@ fn info_word(
         + bit(sends_jr)
 }
 
-// Device Identity.
+// Returns the packet of a Device Identity.
 fn identity(manufacturer: &[u8; 3], family: &[u8; 2], model: &[u8; 2], revision: &[u8; 4]) -> Packet
     ensures packet { result ≡ packet_of (stream.Identity manufacturer.now family.now model.now revision.now) }
     ensures fits { IsPacket result }
@@ -110,7 +110,7 @@ fn identity(manufacturer: &[u8; 3], family: &[u8; 2], model: &[u8; 2], revision:
     single(0x002, 0, second, third, text_word(revision, 0))
 }
 
-// A packet of format 0.
+// Returns a packet of format 0.
 fn single(status: u16, low: u16, second: u32, third: u32, fourth: u32) -> Packet
     requires { status < 2 ^ 10 }
     ensures packet { result ≡ packet.Stream 0 status low second third fourth }
@@ -126,7 +126,7 @@ fn single(status: u16, low: u16, second: u32, third: u32, fourth: u32) -> Packet
     }
 }
 
-// A packet of format 0 that has nothing after bytes 3 and 4.
+// Returns a packet of format 0 with zeros after bytes 3 and 4.
 fn short(status: u16, third: u8, fourth: u8) -> Packet
     requires { status < 2 ^ 10 }
     ensures packet { result ≡ packet.Stream 0 status (half_of third fourth) 0 0 0 }
@@ -135,7 +135,7 @@ fn short(status: u16, third: u8, fourth: u8) -> Packet
     single(status, half(third, fourth), 0, 0, 0)
 }
 
-// A packet of a name or a product instance id, with fourteen bytes of its text.
+// Returns a packet of a name or a product instance id, with fourteen bytes of its text.
 fn name(form: Form, status: u16, text: &[u8; 14]) -> Packet
     requires { status < 2 ^ 10 }
     ensures packet { result ≡ packet.Stream (form_number form) status
@@ -146,7 +146,7 @@ fn name(form: Form, status: u16, text: &[u8; 14]) -> Packet
     text_packet(form, status, half(text[0], text[1]), text, 2)
 }
 
-// A packet of a text, with twelve of its bytes, from index `start` on, in words 2 to 4.
+// Returns a packet of a text, with twelve of its bytes, from index `start` on, in words 2 to 4.
 fn text_packet(form: Form, status: u16, low: u16, text: &[u8], start: usize) -> Packet
     requires status { status < 2 ^ 10 }
     requires start { start ≤ 2 }
@@ -165,7 +165,7 @@ fn text_packet(form: Form, status: u16, low: u16, text: &[u8], start: usize) -> 
     }
 }
 
-// Bytes 3 and 4 of Function Block Info.
+// Returns bytes 3 and 4 of Function Block Info.
 fn block_half(active: bool, block: u8, hint: u8, midi1: u8, direction: u8) -> u16
     requires block { block < 2 ^ 7 }
     requires hint { hint < 2 ^ 2 }
@@ -186,21 +186,21 @@ fn bit(set: bool) -> u32
     u32::from(set)
 }
 
-// The half word of two bytes.
+// Returns the half word of two bytes.
 fn half(first: u8, second: u8) -> u16
     ensures { result ≡ half_of first second }
 {
     u16::from_be_bytes([first, second])
 }
 
-// The word of four bytes.
+// Returns the word of four bytes.
 fn word(first: u8, second: u8, third: u8, fourth: u8) -> u32
     ensures { result ≡ word_of first second third fourth }
 {
     u32::from_be_bytes([first, second, third, fourth])
 }
 
-// The word of the four bytes from index `start` on.
+// Returns the word of the four bytes from index `start` on.
 fn text_word(text: &[u8], start: usize) -> u32
     requires small { start ≤ 10 }
     requires bytes { start + 4 ≤ length text.now }

@@ -1,4 +1,4 @@
-// Numbers in decimal digits.
+// Writes numbers in decimal digits.
 ghost use Rattle.std.specs.Prelude.{◌≡◌, ◌<◌, ◌/◌, ◌%◌, ◌++◌, decimal};
 ghost use Rattle.text_lines.specs.ForProofs.Digits.{two_digits};
 ghost use Rattle.text_lines.specs.Room.{AddsAtMost, HasRoom, longest_front, longest_number, longest_value};
@@ -6,8 +6,8 @@ ghost use Rattle.text_lines.specs.Room.{AddsAtMost, HasRoom, longest_front, long
 use crate::line::Line;
 use itoa::Buffer;
 
-// The decimal digits of each number below 256, with blanks after them up to three bytes, and then how many
-// digits they are.
+// The decimal digits of each number below 256, padded with blanks to three bytes, and then the number of
+// digits.
 #[rattlefmt::skip]
 static SMALL_NUMBERS: [u8; 1024] =
     *b"0  \x011  \x012  \x013  \x014  \x015  \x016  \x017  \x01\
@@ -52,7 +52,7 @@ static DECIMAL_PAIRS: [u8; 200] =
       6061626364656667686970717273747576777879\
       8081828384858687888990919293949596979899";
 
-// Adds a number of at most three digits. Four bytes are copied, whatever the number of digits is.
+// Adds a number of at most three digits. Four bytes are always copied.
 #[inline(always)]
 fn put_small(line: &mut Line, number: u8)
     requires { HasRoom 4 line.old }
@@ -123,7 +123,7 @@ fn put_long_front(line: &mut Line, number: u32)
     }
 }
 
-// Adds a number of several digits: its front, and then its last four digits.
+// Adds a number of several digits: first the digits before the last four, and then the last four.
 #[inline(never)]
 fn put_several(line: &mut Line, number: u32)
     requires { HasRoom longest_value line.old }
@@ -138,8 +138,8 @@ fn put_several(line: &mut Line, number: u32)
     }
 }
 
-/// Adds a number of 32 bits in decimal digits, without leading zeros. A
-/// line has 256 bytes, and asks room for 10 digits, whatever the number is.
+/// Adds a number of 32 bits in decimal digits, without leading zeros. Requires room in the 256-byte line for
+/// 10 digits, whatever the number is.
 #[inline(always)]
 pub fn put_number(line: &mut Line, number: u32)
     requires { HasRoom longest_value line.old }
@@ -153,8 +153,8 @@ pub fn put_number(line: &mut Line, number: u32)
     }
 }
 
-/// Adds a number in decimal digits, without leading zeros. A line has 256 bytes, and asks room for 20 digits,
-/// as the largest number has, whatever the number is.
+/// Adds a number in decimal digits, without leading zeros. Requires room in the 256-byte line for 20 digits,
+/// as many as the largest number has, whatever the number is.
 #[inline(always)]
 pub fn put_decimal(line: &mut Line, number: u64)
     requires { HasRoom longest_number line.old }

@@ -1,4 +1,8 @@
-//! The lines of text that the program writes, except those of the facts of a state.
+//! Writes the lines of text of the program: the lines of packets and of the listing. The lines of the command
+//! `endpoint` are in `endpoint_lines`, and those of facts, steps and texts in `midi_lines`.
+//!
+//! Start with [`Line`], which holds one line. [`packet_line`] and [`listing_line`] return a line, and the
+//! calls with `fill` in their names write over an existing one.
 #![tactic(auto)]
 
 mod decimal;

@@ -1,9 +1,9 @@
 // A line of text.
 use small_types::ByteBuffer;
 
-/// How many bytes a line holds.
+/// The capacity of a line in bytes.
 pub const CAPACITY: usize = 256;
 
-/// A line of text, or what there is of it so far: at most 256 bytes, the last of a whole one a line feed. To
-/// a contract it is the list of its bytes.
+/// A line of text, or the start of one: at most 256 bytes. A complete line ends with a line feed. In
+/// contracts its value is the list of bytes.
 pub type Line = ByteBuffer<CAPACITY>;

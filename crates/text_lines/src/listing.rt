@@ -9,8 +9,8 @@ use crate::put::put_text;
 use listing_terms::{Kind, Listed};
 use voice_messages::U4;
 
-/// The line of what is listed: its offset in decimal digits, its group,
-/// or a hyphen if it has none, and its kind (own rule).
+/// Returns the line for a listed message: the offset in decimal digits, the group, or a hyphen if there is
+/// none, and the kind (own rule).
 pub fn listing_line(listed: &Listed) -> Line
     ensures text { result ≡ listing_text listed.now }
     ensures some { 0 < length result }
@@ -20,7 +20,7 @@ pub fn listing_line(listed: &Listed) -> Line
     line
 }
 
-/// Overwrites the line with that of what is listed, as `listing_line` writes it (own rule).
+/// Overwrites the line with the line for a listed message, as `listing_line` returns it (own rule).
 #[inline(always)]
 pub fn fill_listing_line(line: &mut Line, listed: &Listed)
     ensures text { line.new ≡ listing_text listed.now }
@@ -33,8 +33,8 @@ pub fn fill_listing_line(line: &mut Line, listed: &Listed)
     put_kind(line, listed.kind);
 }
 
-/// The line of what is listed of a stream of MIDI 1.0 bytes, which has no groups: the offset in decimal
-/// digits, and the kind (own rule).
+/// Returns the line for a message that is listed for a MIDI 1.0 byte stream, which has no groups: the offset
+/// in decimal digits, and the kind (own rule).
 pub fn byte_listing(kind: Kind, offset: u64) -> Line
     ensures text { result ≡ byte_listing_text kind offset }
     ensures some { 0 < length result }
@@ -44,7 +44,7 @@ pub fn byte_listing(kind: Kind, offset: u64) -> Line
     line
 }
 
-/// Overwrites the line with that of what is listed of a stream, as `byte_listing` writes it (own rule).
+/// Overwrites the line with the line for a stream, as `byte_listing` returns it (own rule).
 pub fn fill_byte_listing(line: &mut Line, kind: Kind, offset: u64)
     ensures text { line.new ≡ byte_listing_text kind offset }
     ensures some { 0 < length line.new }
@@ -54,7 +54,7 @@ pub fn fill_byte_listing(line: &mut Line, kind: Kind, offset: u64)
     put_kind(line, kind);
 }
 
-/// Adds a group, or a hyphen for none.
+/// Adds a group, or a hyphen if there is none.
 pub fn put_group_or_hyphen(line: &mut Line, group: Option<U4>)
     requires { length line.old ≤ before_kind }
     ensures text { line.new ≡ line.old ++ group_text group }
@@ -66,7 +66,7 @@ pub fn put_group_or_hyphen(line: &mut Line, group: Option<U4>)
     }
 }
 
-// The word of a kind, with a space before it, and the end of the line.
+// Adds a space, the word for a kind, and the end of the line.
 fn put_kind(line: &mut Line, kind: Kind)
     requires { length line.old ≤ before_kind }
     ensures text { line.new ≡ line.old ++ codes " " ++ listed_word kind ++ codes "\n" }
@@ -77,7 +77,7 @@ fn put_kind(line: &mut Line, kind: Kind)
     put_text(line, "\n");
 }
 
-// The word of a kind.
+// Returns the word for a kind.
 fn kind_name(kind: Kind) -> &'static str
     ensures word { result.now ≡ listed_word kind }
     ensures size { length result.now ≤ longest_word }

@@ -13,8 +13,8 @@ use small_types::ShortList;
 use ump_grammar::Packet;
 use voice_messages::{Form, U4};
 
-/// The line of a packet that stands at this offset, with its one to four words: the offset in decimal digits,
-/// each word in eight hexadecimal digits, the kind of the packet and its fields (own rule).
+/// Returns the line for a packet at this offset, with one to four words: the offset in decimal digits, each
+/// word in eight hexadecimal digits, the kind of the packet and its fields (own rule).
 pub fn packet_line(packet: &Packet, words: &[u32], offset: u64) -> Line
     requires { length words.now ≤ most_words }
     ensures text { result ≡ packet_text packet.now words.now offset }
@@ -25,7 +25,7 @@ pub fn packet_line(packet: &Packet, words: &[u32], offset: u64) -> Line
     line
 }
 
-/// Overwrites the line with that of a packet, as `packet_line` writes it (own rule).
+/// Overwrites the line with the line for a packet, as `packet_line` returns it (own rule).
 #[inline(always)]
 pub fn fill_packet_line(line: &mut Line, packet: &Packet, words: &[u32], offset: u64)
     requires { length words.now ≤ most_words }
@@ -36,8 +36,8 @@ pub fn fill_packet_line(line: &mut Line, packet: &Packet, words: &[u32], offset:
     put_packet_line(line, packet, words, offset);
 }
 
-/// Adds the line of a packet, as `packet_line` writes it, to what the line has: nothing, or the ticks at
-/// which the packet stands and a space, at most 21 bytes (own rule). A packet has 1 to 4 words.
+/// Adds the line for a packet, as `packet_line` returns it, to a line that is empty or has only the packet's
+/// ticks and a space, at most 21 bytes (own rule). A packet has 1 to 4 words.
 #[inline(always)]
 pub fn put_packet_line(line: &mut Line, packet: &Packet, words: &[u32], offset: u64)
     requires few { length words.now ≤ most_words }
@@ -51,7 +51,7 @@ pub fn put_packet_line(line: &mut Line, packet: &Packet, words: &[u32], offset: 
     put_text(line, "\n");
 }
 
-// Each word with a space before it.
+// Adds each word with a space before it.
 fn put_words(line: &mut Line, words: &[u32])
     requires few { length words.now ≤ most_words }
     requires room { length line.old ≤ before_packet + longest_number }
@@ -64,7 +64,7 @@ fn put_words(line: &mut Line, words: &[u32])
     }
 }
 
-// The kind of a packet and its fields.
+// Adds the kind of a packet and its fields.
 #[inline(always)]
 fn put_packet(line: &mut Line, packet: &Packet)
     requires { length line.old ≤ before_kind }
@@ -93,7 +93,7 @@ fn put_utility(line: &mut Line, status: u8, value: u32)
     put_field(line, " value=", value);
 }
 
-// A kind whose only field is the group.
+// Adds a kind whose only field is the group.
 fn put_group(line: &mut Line, kind: &str, group: U4)
     requires { length line.old + length kind.now ≤ before_fields }
     ensures text { line.new ≡ line.old ++ kind.now ++ field (codes "group") group }
@@ -103,7 +103,7 @@ fn put_group(line: &mut Line, kind: &str, group: U4)
     put_field(line, " group=", group.get() as u32);
 }
 
-// The word of a form.
+// Returns the word for a form.
 fn form_name(form: Form) -> &'static str
     ensures word { result.now ≡ form_word form }
     ensures size { length result.now ≤ longest_word }

@@ -1,4 +1,4 @@
-// The parts that lines are put together from, each with its room.
+// The parts of which lines are made, each with the room that it needs.
 ghost use Rattle.std.specs.Prelude.{◌≡◌, ◌<◌, ◌+◌, ◌*◌, ◌/◌, ◌++◌, length, decimal};
 ghost use Rattle.text_lines.specs.Fields.{hex_digit, hex, hex_bytes};
 ghost use Rattle.text_lines.specs.Room.{AddsAtMost, HasRoom, longest_value};
@@ -6,7 +6,7 @@ ghost use Rattle.text_lines.specs.Room.{AddsAtMost, HasRoom, longest_value};
 use crate::decimal::put_number;
 use crate::line::Line;
 
-/// Adds a text at the end. A line has 256 bytes, and asks room for all of the text.
+/// Adds a text at the end. Requires room in the 256-byte line for the whole text.
 #[inline(always)]
 pub fn put_text(line: &mut Line, text: &str)
     requires { HasRoom (length text.now) line.old }
@@ -15,7 +15,7 @@ pub fn put_text(line: &mut Line, text: &str)
     line.extend_one_by_one(text.as_bytes());
 }
 
-// An upper case hexadecimal digit.
+// Returns an upper case hexadecimal digit.
 fn digit_byte(digit: u8) -> u8
     requires { digit < 16 }
     ensures { result ≡ hex_digit digit }
@@ -27,7 +27,8 @@ fn digit_byte(digit: u8) -> u8
     }
 }
 
-/// Adds the last `width` hexadecimal digits of a number. The line of 256 bytes asks room for `width`.
+/// Adds the last `width` hexadecimal digits of a number. Requires room in the 256-byte line for `width`
+/// digits.
 #[tactic(auto, unfolding(crate::specs::Fields::hex))]
 pub fn put_hex(line: &mut Line, width: usize, number: u32)
     requires { HasRoom width line.old }
@@ -41,7 +42,7 @@ pub fn put_hex(line: &mut Line, width: usize, number: u32)
     line.extend(&[digit_byte((number % 16) as u8)]);
 }
 
-// The two digits of each byte.
+// The two hexadecimal digits of each byte.
 #[rattlefmt::skip]
 static HEX_PAIRS: [u8; 512] =
     *b"000102030405060708090A0B0C0D0E0F\
@@ -61,14 +62,14 @@ static HEX_PAIRS: [u8; 512] =
       E0E1E2E3E4E5E6E7E8E9EAEBECEDEEEF\
       F0F1F2F3F4F5F6F7F8F9FAFBFCFDFEFF";
 
-// The number that stands above the lowest byte.
+// Returns a number without its lowest byte, as the number that the other bytes spell.
 fn above_lowest_byte(number: u32) -> u32
     ensures { result ≡ number / 16 / 16 }
 {
     number / 256
 }
 
-// Adds the last two hexadecimal digits.
+// Adds the last two hexadecimal digits of a number.
 #[inline(always)]
 fn put_pair(line: &mut Line, number: u32)
     requires { HasRoom 2 line.old }
@@ -79,7 +80,7 @@ fn put_pair(line: &mut Line, number: u32)
     line.extend(&[HEX_PAIRS[at], HEX_PAIRS[at + 1]]);
 }
 
-/// Adds a word in eight hexadecimal digits. The line of 256 bytes asks room for them.
+/// Adds a word in eight hexadecimal digits. Requires room for them in the 256-byte line.
 #[tactic(auto, unfolding(crate::specs::Fields::hex))]
 pub fn put_word(line: &mut Line, word: u32)
     requires { HasRoom 8 line.old }
@@ -94,8 +95,8 @@ pub fn put_word(line: &mut Line, word: u32)
     put_pair(line, word);
 }
 
-/// Adds each byte in two hexadecimal digits, with nothing between
-/// them. The line of 256 bytes asks room for them.
+/// Adds each byte in two hexadecimal digits, with nothing between the bytes. Requires room for all of them in
+/// the 256-byte line.
 pub fn put_hex_bytes(line: &mut Line, bytes: &[u8])
     requires { HasRoom (2 * length bytes.now) line.old }
     ensures text { line.new ≡ line.old ++ hex_bytes bytes.now }
@@ -106,8 +107,8 @@ pub fn put_hex_bytes(line: &mut Line, bytes: &[u8])
     }
 }
 
-/// Adds a label, as ` note=`, and a number in decimal digits. The line
-/// of 256 bytes asks room for the label and 10 digits.
+/// Adds a label, such as ` note=`, and a number in decimal digits. Requires room in the 256-byte line for the
+/// label and 10 digits.
 #[inline(always)]
 pub fn put_field(line: &mut Line, label: &str, number: u32)
     requires { HasRoom (length label.now + longest_value) line.old }
@@ -118,7 +119,7 @@ pub fn put_field(line: &mut Line, label: &str, number: u32)
     put_number(line, number);
 }
 
-/// Adds a label, as ` form=`, and a word. The line of 256 bytes asks room for both.
+/// Adds a label, such as ` form=`, and a word. Requires room for both in the 256-byte line.
 #[inline(always)]
 pub fn put_word_field(line: &mut Line, label: &str, word: &str)
     requires { HasRoom (length label.now + length word.now) line.old }
@@ -129,8 +130,8 @@ pub fn put_word_field(line: &mut Line, label: &str, word: &str)
     put_text(line, word);
 }
 
-/// Adds a label, as ` status=`, and the last `width` hexadecimal digits of a number. Requires room in the
-/// 256-byte line for the label and `width` digits.
+/// Adds a label, such as ` status=`, and the last `width` hexadecimal digits of a number. Requires room in
+/// the 256-byte line for the label and `width` digits.
 #[inline(always)]
 pub fn put_hex_field(line: &mut Line, label: &str, width: usize, number: u32)
     requires { HasRoom (length label.now + width) line.old }

@@ -1,4 +1,4 @@
-// Parts that the lines of channel voice messages of both protocols share.
+// The parts that the lines of channel voice messages have in common in both protocols.
 ghost use Rattle.std.specs.Prelude.{◌≡◌, ◌≤◌, ◌+◌, ◌*◌, ◌++◌, length};
 ghost use Rattle.text_lines.specs.Fields.{group_field, group_and_channel};
 ghost use Rattle.text_lines.specs.VoiceLines.{channel_value, controller_value, note_value};
@@ -8,7 +8,7 @@ use crate::line::Line;
 use crate::put::{put_field, put_text};
 use voice_messages::{U4, U7};
 
-/// The channel that a message is for, in its group; a message of a stream of bytes has no group.
+/// The channel that a message is for, and its group. A message in a byte stream has no group.
 #[derive(Clone, Copy)]
 pub struct VoiceAddress {
     pub group: Option<U4>,
@@ -41,7 +41,7 @@ pub fn put_voice(line: &mut Line, kind: &str, address: VoiceAddress)
     put_field(line, " channel=", address.channel.get() as u32);
 }
 
-/// Adds a message with a value of its channel.
+/// Adds a message that has a value for its channel.
 #[inline(always)]
 pub fn put_value(line: &mut Line, kind: &str, address: VoiceAddress, value: u32)
     requires { length line.old + length kind.now ≤ before_fields }
@@ -52,7 +52,7 @@ pub fn put_value(line: &mut Line, kind: &str, address: VoiceAddress, value: u32)
     put_field(line, " value=", value);
 }
 
-/// Adds a message with a value of one note.
+/// Adds a message that has a value for one note.
 #[inline(always)]
 pub fn put_note_value(line: &mut Line, kind: &str, address: VoiceAddress, note: U7, value: u32)
     requires { length line.old + length kind.now ≤ before_fields }
@@ -64,7 +64,7 @@ pub fn put_note_value(line: &mut Line, kind: &str, address: VoiceAddress, note: 
     put_field(line, " value=", value);
 }
 
-/// Adds a message with a value of one controller.
+/// Adds a message that has a value for one controller.
 #[inline(always)]
 pub fn put_control(line: &mut Line, kind: &str, address: VoiceAddress, index: U7, value: u32)
     requires { length line.old + length kind.now ≤ before_fields }

@@ -1,4 +1,4 @@
-// The lines of messages of the MIDI 1.0 protocol, from their kind on.
+// The lines of MIDI 1.0 protocol messages, from their kind on.
 ghost use Rattle.std.specs.Prelude.{◌≡◌, ◌≤◌, ◌+◌, ◌++◌, length, codes};
 ghost use Rattle.text_lines.specs.Fields.{field};
 ghost use Rattle.text_lines.specs.Voice1Lines.{voice1_fields, system_fields, system_status, m1_note, m1_program};
@@ -83,7 +83,7 @@ pub fn put_system(line: &mut Line, group: Option<U4>, message: &System)
     }
 }
 
-// A system common message with its value.
+// Adds a system common message and its value.
 fn put_common(line: &mut Line, group: Option<U4>, status: u8, value: u32)
     requires { length line.old ≤ before_kind }
     ensures text { line.new ≡ line.old ++ system_status group status ++ field (codes "value") value }
@@ -93,7 +93,7 @@ fn put_common(line: &mut Line, group: Option<U4>, status: u8, value: u32)
     put_field(line, " value=", value);
 }
 
-// A system message by its status byte.
+// Adds a system message by its status byte.
 fn put_status(line: &mut Line, group: Option<U4>, status: u8)
     requires { length line.old ≤ before_kind }
     ensures text { line.new ≡ line.old ++ system_status group status }

@@ -1,4 +1,4 @@
-// The lines of messages of the MIDI 2.0 protocol, from their kind on.
+// The lines of MIDI 2.0 protocol messages, from their kind on.
 ghost use Rattle.std.specs.Prelude.{◌≡◌, ◌≤◌, ◌+◌, ◌*◌, ◌++◌, length, codes};
 ghost use Rattle.text_lines.specs.Fields.{field};
 ghost use Rattle.text_lines.specs.Voice2Lines.{voice2_fields, kind_word, bank_field, param_fields, param_value, controller_fields, note_controller, program, note_management};
@@ -66,7 +66,7 @@ pub fn put_voice2(line: &mut Line, group: Option<U4>, message: &Voice2)
     }
 }
 
-// The fields of a note off or note on after its channel.
+// Adds the fields of a note off or note on that follow the channel.
 #[inline(always)]
 fn put_note(line: &mut Line, note: U7, velocity: u16, attribute_type: u8, attribute: u16)
     requires { length line.old ≤ behind_channel }
@@ -81,7 +81,7 @@ fn put_note(line: &mut Line, note: U7, velocity: u16, attribute_type: u8, attrib
     put_field(line, " attribute=", attribute as u32);
 }
 
-/// The word of a kind of parameter.
+/// Returns the word for a kind of parameter.
 pub fn kind_name(kind: ParamKind) -> &'static str
     ensures word { result.now ≡ kind_word kind }
     ensures size { length (codes " kind=") + length result.now ≤ longest_word }
@@ -92,7 +92,7 @@ pub fn kind_name(kind: ParamKind) -> &'static str
     }
 }
 
-// The kind and the number of a parameter.
+// Adds the kind and the number of a parameter.
 #[tactic(auto, unfolding(crate::specs::Voice2Lines::param_fields))]
 fn put_param_fields(line: &mut Line, param: Param)
     requires { length line.old ≤ behind_channel }
@@ -104,7 +104,7 @@ fn put_param_fields(line: &mut Line, param: Param)
     put_field(line, " index=", param.index.get() as u32);
 }
 
-// A value of a parameter, or a change of its value.
+// Adds a message that sets a parameter's value, or changes it.
 #[inline(always)]
 fn put_param(line: &mut Line, kind: &str, address: VoiceAddress, param: Param, value: u32)
     requires { length line.old + length kind.now ≤ before_fields }
@@ -126,7 +126,7 @@ fn put_program(line: &mut Line, address: VoiceAddress, number: U7, bank: Option<
     put_bank(line, bank);
 }
 
-// The bank of a program.
+// Adds the bank of a program change.
 #[tactic(auto, unfolding(crate::specs::Voice2Lines::bank_field))]
 fn put_bank(line: &mut Line, bank: Option<Bank>)
     requires { HasRoom (2 * longest_field) line.old }
@@ -144,7 +144,7 @@ fn put_bank(line: &mut Line, bank: Option<Bank>)
     }
 }
 
-// A value of a controller of one note.
+// Adds a message that has a value for a controller of one note.
 #[inline(always)]
 fn put_note_controller(
     line: &mut Line,
@@ -164,7 +164,7 @@ fn put_note_controller(
     put_field(line, " value=", value);
 }
 
-// The kind, the note and the index of a note controller.
+// Adds the kind, the note and the index of a note controller.
 #[tactic(auto, unfolding(crate::specs::Voice2Lines::controller_fields))]
 fn put_controller_fields(line: &mut Line, kind: ParamKind, note: U7, index: u8)
     requires { length line.old ≤ behind_channel }

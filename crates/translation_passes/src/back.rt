@@ -1,4 +1,4 @@
-// From a stream of MIDI 1.0 bytes to packets, and from these to MIDI 1.0 bytes again.
+// Translates a MIDI 1.0 byte stream to packets, and these to MIDI 1.0 bytes again.
 ghost use Rattle.std.specs.Prelude.{◌≡◌, ◌<◌, ◌≤◌, [], ◌∷◌, IfOk, length};
 ghost use Rattle.down_translator.specs.Lowered.{lowered_bytes};
 ghost use Rattle.pass_loop.specs.Put.{in_output};
@@ -35,7 +35,8 @@ use up_translator::laws::raised_bytes_are_the_definition;
 use up_translator::{RaisedPacket, Up};
 use voice_messages::Form;
 
-/// A translation up and down again that is ready to begin, with all its memory. A contract sees its options.
+/// A translation up and down again that is ready to begin and has all its memory. In contracts its value is
+/// the options.
 #[derive(Drop)]
 pub struct BackRun {
     up: Up,
@@ -60,9 +61,10 @@ impl Model for BackRun {
 }
 
 impl BackRun {
-    /// A translation into this group and down again in plain style, with paired controllers or without (own
-    /// rule). `room` is the most bytes of an exclusive between F0 and F7, 6 to 1,048,576, for which both ways
-    /// reserve memory; `NoMemory` if there isn't that much. No other call takes any.
+    /// Creates a pass that translates bytes to packets of this group, and down again in plain style, with or
+    /// without paired controllers (own rule). `room` is the most bytes of an exclusive between F0 and F7, 6
+    /// to 1,048,576, for which both translators reserve memory. Returns `NoMemory` if there isn't enough. No
+    /// other call allocates.
     pub fn new(alloc: Global, group: U4, room: u32, paired: bool) -> Result<BackRun, NoMemory>
         requires least { 6 ≤ room }
         requires most { room ≤ 1048576 }
@@ -74,7 +76,7 @@ impl BackRun {
     }
 }
 
-// Puts a piece in the output, unless it is empty.
+// Writes a piece to the output, unless the piece is empty.
 fn put_piece<O: Outputs>(piece: &[u8], outputs: &mut O) -> Result<(), RunEnd>
     ensures { Puts (piece_puts piece.now) (O.places outputs.old) (O.places outputs.new) result }
 {
@@ -85,7 +87,7 @@ fn put_piece<O: Outputs>(piece: &[u8], outputs: &mut O) -> Result<(), RunEnd>
     }
 }
 
-// Puts a message that alone carries a packet in the output.
+// Writes a message that alone carries a packet to the output.
 #[inline(always)]
 fn put_message<O: Outputs>(message: &LoweredMessage, outputs: &mut O) -> Result<(), RunEnd>
     ensures { Puts (in_output (lowered_bytes message.now) ∷ [])
@@ -104,7 +106,7 @@ fn put_message<O: Outputs>(message: &LoweredMessage, outputs: &mut O) -> Result<
     }
 }
 
-// Takes a packet down, and puts its piece.
+// Translates a packet down, and writes its piece.
 #[inline(always)]
 fn put_packet<O: Outputs>(
     down: &mut Down,
@@ -122,8 +124,8 @@ fn put_packet<O: Outputs>(
     }
 }
 
-// The same with the packet of a direct message, which few messages need. The packet and the answer are made
-// here, so that nothing is written to memory for the others.
+// Does the same as `put_packet` for the packet of a direct message, which is rarely needed. The packet and
+// the result are created here, so that other messages cause no writes to memory.
 #[inline(always)]
 fn put_rare<O: Outputs>(
     down: &mut Down,
@@ -140,8 +142,8 @@ fn put_rare<O: Outputs>(
     Ok(())
 }
 
-// Takes packets down, and puts their pieces. The way down neither refuses nor lists the packets to which
-// bytes are raised.
+// Translates packets down, and writes their pieces. The way down neither refuses nor lists the packets to
+// which bytes are translated up.
 impl PacketWork for Down {
     ghost Accepts = { λ from packet. ComesDown from packet };
 
@@ -188,8 +190,8 @@ impl PacketWork for Down {
     }
 }
 
-// Puts the pieces of the packets of each byte in the output and its lines
-// in the notes, at the end the line of what is still open.
+// Writes the pieces of each byte's packets to the output and the byte's lines to the notes, and at the end
+// the line for the message that is still open.
 #[derive(Drop)]
 struct BackEngine {
     up: Up,
@@ -250,14 +252,14 @@ impl Runs for BackEngine {
     }
 }
 
-/// Translates a stream up, and each packet down again in plain style, to its end or to the first byte that is
-/// refused (M2-104-UM, translation from MIDI 1.0 and default translation): puts the piece of each packet that
-/// has one in the output, and after those of a byte its lines in the notes, at the end the line of what is
-/// still open. Takes no memory.
+/// Translates a stream up, and each packet down again in plain style, to the end of the stream or to the
+/// first byte that is refused (M2-104-UM, translation from MIDI 1.0 and default translation). Writes the
+/// piece of each packet that has one to the output. After the pieces of a byte, writes the byte's lines to
+/// the notes, and at the end the line for the message that is still open. The call doesn't allocate.
 ///
-/// `Refused` comes for `InputTooLong`, `DataIncrement`, `DataDecrement` and `ExclusiveTooLong`, with the
-/// number of bytes before what is refused. `ReadFault`, `OutputFault` and `NoteFault` come only if the
-/// count of that object rose. The lanes are unchanged.
+/// Returns `Refused` for `InputTooLong`, `DataIncrement`, `DataDecrement` and `ExclusiveTooLong`, with the
+/// number of bytes before the byte that is refused. Returns `ReadFault`, `OutputFault` or `NoteFault` only if
+/// the fault count of that object rose. The lanes are unchanged.
 // Never inlined, so that the loops of the other passes keep their registers.
 #[inline(never)]
 pub fn run_back<S: Source, L: Lanes, W: Sink, N: Sink>(

@@ -1,4 +1,4 @@
-// From packets to MIDI 1.0 bytes.
+// Translates packets to MIDI 1.0 bytes.
 ghost use Rattle.std.specs.Prelude.{◌≡◌, ◌<◌, ◌≤◌, ◌∷◌, [], IfOk, MatchOption, false, true};
 ghost use Rattle.std.specs.Option.{option_map, option_to_list};
 ghost use Rattle.sysex_groups.specs.Table.{Table, begun_in};
@@ -35,7 +35,7 @@ use small_types::{NoMemory, U4};
 use std::alloc::Global;
 use std::marker::Model;
 
-/// A translation down that is ready to begin, with all its memory. A contract sees its options.
+/// A translation down that is ready to begin and has all its memory. In contracts its value is the options.
 #[derive(Drop)]
 pub struct DownRun {
     down: Down,
@@ -82,8 +82,8 @@ impl DownRun {
     }
 }
 
-// Puts the piece of each packet that is carried into the lane of its group, and the line of each packet
-// that is listed in the notes. At the end it puts the lines of the exclusives that are still open.
+// Writes the piece of each packet that is carried to its group's lane, and the line of each packet that is
+// listed to the notes. At the end it writes the lines for the exclusives that are still open.
 #[derive(Drop)]
 struct DownEngine {
     down: Down,
@@ -139,13 +139,15 @@ impl Engine<Framed, EncodedPacket> for DownEngine {
 }
 
 /// Translates a recording down, to its end or to the first packet that is refused (M2-104-UM, default
-/// translation; what that leaves out is listed by own rule). The piece of each packet that is carried is
-/// put into the lane of its group, in the style of the translation. The line of each packet that is listed
-/// is put in the notes, and at the end the lines of the exclusives that are still open. Takes no memory.
+/// translation; own rule: packets that it leaves out are listed). Writes the piece of each packet that is
+/// carried to its group's lane, in the style of the translation. Writes the line of each packet that is
+/// listed to the notes, and at the end the lines for the exclusives that are still open. The call doesn't
+/// allocate.
 ///
-/// `Refused` comes for `Truncated`, `InputTooLong`, `BadCount`, `HighBit`, `DataIncrement`, `DataDecrement`
-/// and `ExclusiveTooLong`, with the number of bytes before what is refused. `ReadFault`, `LaneFault` and
-/// `NoteFault` come only if the count of that object rose. The output is unchanged.
+/// Returns `Refused` for `Truncated`, `InputTooLong`, `BadCount`, `HighBit`, `DataIncrement`, `DataDecrement`
+/// and `ExclusiveTooLong`, with the number of bytes before the packet or end that is refused. Returns
+/// `ReadFault`, `LaneFault` or `NoteFault` only if the fault count of that object rose. The output is
+/// unchanged.
 // Never inlined, so that the loops of the other passes keep their registers.
 #[inline(never)]
 pub fn run_down<S: Source, L: Lanes, W: Sink, N: Sink>(
@@ -167,7 +169,7 @@ pub fn run_down<S: Source, L: Lanes, W: Sink, N: Sink>(
     drive(reader, DownEngine { down }, input, lanes, output, notes)
 }
 
-// Puts a piece into its lane, unless it is empty.
+// Writes a piece to its lane, unless the piece is empty.
 fn put_piece<O: Outputs>(carried: &Carried<'_>, outputs: &mut O) -> Result<(), RunEnd>
     requires begun { (O.places outputs.old).begun ≡ true }
     ensures { Puts (pair_puts (pair_put carried.now)) (O.places outputs.old) (O.places outputs.new) result }
@@ -179,7 +181,7 @@ fn put_piece<O: Outputs>(carried: &Carried<'_>, outputs: &mut O) -> Result<(), R
     }
 }
 
-// Puts a piece into its lane, unless it is empty, and then its line of the listing, if there is one.
+// Writes a piece to its lane, unless the piece is empty, and then its line of the listing, if there is one.
 fn put_carried<O: Outputs>(carried: &Carried<'_>, outputs: &mut O) -> Result<(), RunEnd>
     requires begun { (O.places outputs.old).begun ≡ true }
     ensures { Puts (puts_for carried.now) (O.places outputs.old) (O.places outputs.new) result }
@@ -188,8 +190,8 @@ fn put_carried<O: Outputs>(carried: &Carried<'_>, outputs: &mut O) -> Result<(),
     put_listed(carried.listed(), outputs)
 }
 
-// Takes one packet down that `carry_at_once` doesn't take: puts its piece into the lane of its group, and
-// its line into the notes.
+// Translates down a packet that `carry_at_once` doesn't handle: writes its piece to its group's lane, and its
+// line to the notes.
 fn carry_encoded<O: Outputs>(
     down: &mut Down,
     packet: &EncodedPacket,
@@ -208,8 +210,8 @@ fn carry_encoded<O: Outputs>(
     }
 }
 
-// Puts a message of one byte. Each of these arrays has a function of
-// its own, since it is cleared when its function begins.
+// Writes a message of one byte. Each of these arrays has its own function, because an array is cleared when
+// its function begins.
 #[inline(always)]
 fn put_one<O: Outputs>(lane: U4, first: u8, outputs: &mut O) -> Result<(), RunEnd>
     requires begun { (O.places outputs.old).begun ≡ true }
@@ -218,7 +220,7 @@ fn put_one<O: Outputs>(lane: U4, first: u8, outputs: &mut O) -> Result<(), RunEn
     outputs.put_lane(lane, &[first])
 }
 
-// Puts a message of two bytes.
+// Writes a message of two bytes.
 #[inline(always)]
 fn put_two<O: Outputs>(lane: U4, status: u8, first: u8, outputs: &mut O) -> Result<(), RunEnd>
     requires begun { (O.places outputs.old).begun ≡ true }
@@ -228,7 +230,7 @@ fn put_two<O: Outputs>(lane: U4, status: u8, first: u8, outputs: &mut O) -> Resu
     outputs.put_lane(lane, &[status, first])
 }
 
-// Puts a message of three bytes.
+// Writes a message of three bytes.
 #[inline(always)]
 fn put_three<O: Outputs>(
     lane: U4,
@@ -244,7 +246,7 @@ fn put_three<O: Outputs>(
     outputs.put_lane(lane, &[status, first, second])
 }
 
-// Puts a message of two data bytes, without its status byte if that is left out.
+// Writes a message of two data bytes, without its status byte if that is left out.
 #[inline(always)]
 fn put_with_two<O: Outputs>(
     lane: U4,
@@ -265,7 +267,7 @@ fn put_with_two<O: Outputs>(
     }
 }
 
-// Puts a message of one data byte, without its status byte if that is left out.
+// Writes a message of one data byte, without its status byte if that is left out.
 #[inline(always)]
 fn put_with_one<O: Outputs>(
     lane: U4,
@@ -285,7 +287,7 @@ fn put_with_one<O: Outputs>(
     }
 }
 
-// Puts a message that alone carries a packet into its lane.
+// Writes a message that alone carries a packet to its lane.
 #[inline(always)]
 fn put_message<O: Outputs>(message: &LoweredMessage, outputs: &mut O) -> Result<(), RunEnd>
     requires begun { (O.places outputs.old).begun ≡ true }
@@ -306,7 +308,7 @@ fn put_message<O: Outputs>(message: &LoweredMessage, outputs: &mut O) -> Result<
     }
 }
 
-// Puts a message of compact style into its lane.
+// Writes a message of compact style to its lane.
 #[inline(always)]
 fn put_short_message<O: Outputs>(message: &ShortenedMessage, outputs: &mut O) -> Result<(), RunEnd>
     requires begun { (O.places outputs.old).begun ≡ true }
@@ -328,7 +330,7 @@ fn put_short_message<O: Outputs>(message: &ShortenedMessage, outputs: &mut O) ->
     }
 }
 
-// Puts the line of an attribute that is left out.
+// Writes the line for an attribute that is left out.
 #[inline(always)]
 fn put_attribute<O: Outputs>(group: U4, offset: u64, outputs: &mut O) -> Result<(), RunEnd>
     ensures { Puts (line_puts (option_to_list (attribute_line offset group true)))
@@ -342,8 +344,8 @@ fn put_attribute<O: Outputs>(group: U4, offset: u64, outputs: &mut O) -> Result<
     put_line(&listed, outputs)
 }
 
-// Puts a message that alone carries a packet into its lane, and then the
-// line of the attribute that it leaves out, if it does.
+// Writes a message that alone carries a packet to its lane, and then the line for the attribute that the
+// message leaves out, if it leaves one out.
 #[inline(always)]
 fn put_lowered<O: Outputs>(
     message: &LoweredMessage,
@@ -361,8 +363,8 @@ fn put_lowered<O: Outputs>(
     }
 }
 
-// Puts a message of compact style into its lane, and then the line of
-// the attribute that it leaves out, if it does.
+// Writes a message of compact style to its lane, and then the line for the attribute that the message leaves
+// out, if it leaves one out.
 #[inline(always)]
 fn put_shortened<O: Outputs>(
     message: &ShortenedMessage,
@@ -380,9 +382,9 @@ fn put_shortened<O: Outputs>(
     }
 }
 
-// Takes the packet down at once, as most are: one that a message alone carries, in plain or in compact style,
-// or one that only adds six bytes to an exclusive, of which nothing is put. `None` exactly for other packets,
-// and then nothing is done.
+// Translates a packet down at once if a single message carries it, in plain or compact style, or if it only
+// adds six bytes to an exclusive, for which nothing is written. Most packets are of these kinds. Returns
+// `None` exactly for other packets, and then nothing is done.
 #[inline(always)]
 fn carry_at_once<O: Outputs>(
     down: &mut Down,
@@ -409,7 +411,7 @@ fn carry_at_once<O: Outputs>(
     None
 }
 
-// Takes one packet down: puts its piece into the lane of its group, and its line into the notes.
+// Translates one packet down: writes its piece to its group's lane, and its line to the notes.
 fn carry<O: Outputs>(
     down: &mut Down,
     packet: &EncodedPacket,

@@ -1,4 +1,8 @@
-//! The passes of the translators, for other programs too: a recording down, and a stream up and back.
+//! Runs the translators over whole inputs, for the program and for others: a recording down, a byte stream
+//! up, and a byte stream up and down again.
+//!
+//! Start with [`run_down`], [`run_up`] or [`run_back`]. Each takes a run that its `new` has created with all
+//! memory (for example [`DownRun`]), an input, and the places to write to, and returns a `pass_loop::RunEnd`.
 #![tactic(auto)]
 
 mod back;

@@ -1,4 +1,4 @@
-// The work on the packets to which a byte is raised, and on its lines.
+// Handles the packets to which a byte is translated up, and the byte's lines.
 ghost use Rattle.std.specs.Prelude.{◌≡◌, ◌++◌, ℕ, IfOk, List, Ok};
 ghost use Rattle.ump_grammar.specs.declared.packet.Packet.{Packet};
 ghost use Rattle.ump_grammar.specs.declared.packet.Packet.TheVariants as packet;
@@ -23,15 +23,15 @@ use sysex_groups::part;
 use up_translator::{Raised, RaisedPacket, Up};
 use voice_messages::Form;
 
-/// The work on each of the packets to which a byte is raised.
+/// Handles each of the packets to which a byte is translated up.
 pub(crate) trait PacketWork {
-    /// A packet that it accepts.
+    /// The packets that it accepts.
     ghost Accepts: { Self → Packet → Type 0 };
 
-    /// The work on a packet of the byte at this offset: the state after it, and what is put.
+    /// What it does with a packet of the byte at this offset: the state afterwards, and what is written.
     ghost IsDone: { ℕ → Doing Self };
 
-    /// Does the work on a packet.
+    /// Handles a packet.
     fn put<O: Outputs>(
         &mut self,
         packet: &RaisedPacket,
@@ -42,7 +42,7 @@ pub(crate) trait PacketWork {
         ensures { CarriesOut (IsDone offset self.old packet.now) self.new
             (O.places outputs.old) (O.places outputs.new) result };
 
-    /// Does the work on the packet of a direct message; most packets are such.
+    /// Handles the packet of a direct message. Most packets are of this kind.
     fn put_direct<O: Outputs>(
         &mut self,
         message: &DirectMessage,
@@ -54,7 +54,7 @@ pub(crate) trait PacketWork {
         ensures { CarriesOut (IsDone offset self.old (packet_of message.now)) self.new
             (O.places outputs.old) (O.places outputs.new) result };
 
-    /// Does the work on the packet of a part of an exclusive.
+    /// Handles the packet for a part of an exclusive.
     fn put_part<O: Outputs>(
         &mut self,
         group: U4,
@@ -68,7 +68,7 @@ pub(crate) trait PacketWork {
             (O.places outputs.old) (O.places outputs.new) result };
 }
 
-// Does the work on the packets of an exclusive with these bytes between F0 and F7.
+// Handles the packets of an exclusive with these bytes between F0 and F7.
 fn put_payload<P: PacketWork, O: Outputs>(
     group: U4,
     payload: &[u8],
@@ -93,7 +93,7 @@ fn put_payload<P: PacketWork, O: Outputs>(
     }
 }
 
-// Does the work on the packets of a byte.
+// Handles the packets of a byte.
 #[inline(always)]
 fn put_packets<P: PacketWork, O: Outputs>(
     raised: &Raised<'_>,
@@ -116,8 +116,8 @@ fn put_packets<P: PacketWork, O: Outputs>(
     }
 }
 
-// Does the work on the packets of a byte, and then puts its lines. Most bytes have neither, since they are
-// only kept.
+// Handles the packets of a byte, and then writes the byte's lines. Most bytes have neither packets nor lines,
+// because they are only stored.
 #[inline(always)]
 fn put_raised<P: PacketWork, O: Outputs>(
     raised: &Raised<'_>,
@@ -135,7 +135,7 @@ fn put_raised<P: PacketWork, O: Outputs>(
     put_lines(&raised.lines, outputs)
 }
 
-/// Takes one more byte up, does the work on its packets, and puts its lines in the notes.
+/// Translates one more byte up, handles its packets, and writes its lines to the notes.
 pub(crate) fn put_byte<P: PacketWork, O: Outputs>(
     up: &mut Up,
     work: &mut P,
@@ -157,10 +157,10 @@ pub(crate) fn put_byte<P: PacketWork, O: Outputs>(
     }
 }
 
-/// Takes bytes at the front of these up at once, if they raise nothing or one direct packet, does the work
-/// on that packet, and returns their number. 0 is returned only if these bytes begin neither with a message
-/// that is raised alone nor with data of an open exclusive. The work doesn't depend on the offset, so it is
-/// given 0.
+/// Translates bytes at the front of these up at once, if they complete no packet or one direct packet.
+/// Handles that packet, and returns the number of bytes. Returns 0 only if these bytes begin neither with a
+/// message that is translated up alone nor with data of an open exclusive. The work doesn't depend on the
+/// offset, so it is given 0.
 #[tactic(auto, using(crate::proofs::FrontLaws::some_taken, crate::proofs::FrontLaws::none_taken))]
 #[inline(always)]
 pub(crate) fn put_front<P: PacketWork, O: Outputs>(
@@ -184,7 +184,7 @@ pub(crate) fn put_front<P: PacketWork, O: Outputs>(
     }
 }
 
-/// Puts the line of what is still open at the end, if anything is.
+/// Writes the line for the message that is still open at the end, if there is one.
 pub(crate) fn put_open<O: Outputs>(up: &Up, outputs: &mut O) -> Result<(), RunEnd>
     ensures { Puts (open_puts up.now) (O.places outputs.old) (O.places outputs.new) result }
 {

@@ -1,4 +1,4 @@
-// From a stream of MIDI 1.0 bytes to packets.
+// Translates a MIDI 1.0 byte stream to packets.
 ghost use Rattle.std.specs.Prelude.{◌≡◌, ◌≤◌, ◌<◌, [], ◌∷◌, IfOk, length, refl};
 ghost use Rattle.std.specs.List.{flat_map};
 ghost use Rattle.packet_words.specs.Words.{word_bytes};
@@ -35,7 +35,7 @@ use up_translator::laws::raised_bytes_are_the_definition;
 use up_translator::{RaisedPacket, Up};
 use voice_messages::Form;
 
-/// A translation up that is ready to begin, with all its memory. A contract sees its options.
+/// A translation up that is ready to begin and has all its memory. In contracts its value is the options.
 #[derive(Drop)]
 pub struct UpRun {
     up: Up,
@@ -61,9 +61,10 @@ impl Model for UpRun {
 }
 
 impl UpRun {
-    /// A translation into this group, whose words have this order, with paired controllers or without (own
-    /// rule). `room` is the most bytes of an exclusive between F0 and F7, 6 to 1,048,576, for which memory is
-    /// reserved; `NoMemory` if there isn't that much. No other call takes any.
+    /// Creates a pass that translates bytes to packets of this group, whose words have this byte order, with
+    /// or without paired controllers (own rule). `room` is the most bytes of an exclusive between F0 and F7,
+    /// 6 to 1,048,576, for which memory is reserved. Returns `NoMemory` if there isn't enough. No other call
+    /// allocates.
     pub fn new(
         alloc: Global,
         group: U4,
@@ -81,7 +82,7 @@ impl UpRun {
     }
 }
 
-// Puts the words of packets in the output, in this order of their bytes.
+// Writes the words of packets to the output, in this byte order.
 #[derive(Drop)]
 struct WordOutput {
     order: Order,
@@ -134,8 +135,8 @@ impl PacketWork for WordOutput {
     }
 }
 
-// Puts the words of the packets of each byte in the output and its lines
-// in the notes, at the end the line of what is still open.
+// Writes the words of each byte's packets to the output and the byte's lines to the notes, and at the end the
+// line for the message that is still open.
 #[derive(Drop)]
 struct UpEngine {
     up: Up,
@@ -194,14 +195,14 @@ impl Runs for UpEngine {
     }
 }
 
-/// Translates a stream up, to its end or to the first byte that is refused (M2-104-UM, translation from
-/// MIDI 1.0; bytes that give no packet are listed by own rule). Puts the words of each packet in the
-/// output, and after those of a byte its lines in the notes, at the end the line of what is still open.
-/// Takes no memory.
+/// Translates a stream up, to its end or to the first byte that is refused (M2-104-UM, translation from MIDI
+/// 1.0; own rule: bytes that give no packet are listed). Writes the words of each packet to the output. After
+/// the packets of a byte, writes the byte's lines to the notes, and at the end the line for the message that
+/// is still open. The call doesn't allocate.
 ///
-/// `Refused` comes for `InputTooLong`, `DataIncrement`, `DataDecrement` and `ExclusiveTooLong`, with the
-/// number of bytes before what is refused. `ReadFault`, `OutputFault` and `NoteFault` come only if the
-/// count of that object rose. The lanes are unchanged.
+/// Returns `Refused` for `InputTooLong`, `DataIncrement`, `DataDecrement` and `ExclusiveTooLong`, with the
+/// number of bytes before the byte that is refused. Returns `ReadFault`, `OutputFault` or `NoteFault` only if
+/// the fault count of that object rose. The lanes are unchanged.
 // Never inlined, so that the loops of the other passes keep their registers.
 #[inline(never)]
 pub fn run_up<S: Source, L: Lanes, W: Sink, N: Sink>(

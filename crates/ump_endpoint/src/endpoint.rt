@@ -1,4 +1,4 @@
-// The endpoint that a peer finds.
+// The endpoint that a peer talks to.
 ghost use Rattle.std.specs.Prelude.{◌≡◌, ◌≤◌, [], IfOk, length};
 ghost use Rattle.std.specs.Option.{option_map};
 ghost use Rattle.ci_responder.specs.Held.{muid_in};
@@ -23,20 +23,21 @@ use sysex_groups::Groups;
 use system_stream::read;
 use ump_grammar::{Packet, Replies};
 
-/// The most words that the replies to one packet have: for each of 32 function blocks, one info and seven
-/// packets of a name, four words each. The reply to a MIDI-CI message has at most 114.
+/// The most words that the replies to one packet have: an info and seven packets of a name for each of 32
+/// function blocks, four words each. The reply to a MIDI-CI message has at most 114 words.
 pub const MOST_REPLY_WORDS: usize = 1024;
 
-/// A UMP Endpoint: it answers the stream messages and the MIDI-CI messages of a peer (M2-104-UM, UMP stream
-/// messages; M2-101-UM). A contract sees its state, which is the setup, the protocol in force, the open
-/// exclusives of the groups and the responder, and the words of the replies to the last packet.
+/// A UMP Endpoint, which answers the stream messages and the MIDI-CI messages of a peer (M2-104-UM, UMP
+/// stream messages; M2-101-UM). In contracts its value is the state and the words of the replies to the last
+/// packet. The state is the setup, the protocol in force, the open exclusives of the groups and the
+/// responder.
 #[derive(Drop)]
 pub struct Endpoint {
     setup: Setup,
     config: Config,
     groups: Groups,
     responder: Responder,
-    // On the heap, so that an endpoint is small: it has room for the most words.
+    // On the heap, so that an endpoint is small: there is capacity for the most words.
     replies: Box<Replies>,
 }
 
@@ -60,8 +61,8 @@ impl Model for Endpoint {
     ghost invariant = { λ e. IsOf e.setup e.responder × (e.responder.room ≡ e.groups.room) };
 }
 
-// No replies, with memory for the most that there can be. It isn't inlined, since it needs as much of the
-// stack.
+// Creates an empty list of replies, with memory for the most words that there can be. The function isn't
+// inlined, because it needs as much of the stack.
 #[inline(never)]
 fn no_replies(alloc: Global) -> Result<Box<Replies>, NoMemory>
     ensures { IfOk result (λ replies. replies.value ≡ []) }
@@ -72,8 +73,8 @@ fn no_replies(alloc: Global) -> Result<Box<Replies>, NoMemory>
     }
 }
 
-// Answers a stream packet: adds its replies to `replies`, which is
-// empty, and puts in force the protocol that it asks for.
+// Answers a stream packet: adds the replies to `replies`, which is empty, and puts in force the protocol that
+// the packet requests.
 fn answer(setup: &Setup, config: &mut Config, replies: &mut Replies, packet: &Packet) -> Outcome
     requires stream { IsStream packet.now }
     requires packet { IsPacket packet.now }
@@ -96,9 +97,9 @@ fn answer(setup: &Setup, config: &mut Config, replies: &mut Replies, packet: &Pa
 }
 
 impl Endpoint {
-    /// Makes an endpoint of this setup that has received nothing (own rule). `room` is the most bytes of an
-    /// exclusive between F0 and F7, 6 to 1,048,576, for which each group reserves memory. No other call takes
-    /// memory. `NoMemory` is returned if there isn't enough.
+    /// Creates an endpoint of this setup that has received nothing (own rule). `room` is the most bytes of an
+    /// exclusive between F0 and F7, 6 to 1,048,576, for which each group reserves memory. No other call
+    /// allocates. Returns `NoMemory` if there isn't enough memory.
     pub fn new(alloc: Global, setup: Setup, room: u32) -> Result<Endpoint, NoMemory>
         requires least { 6 ≤ room }
         requires most { room ≤ 1048576 }
@@ -119,9 +120,9 @@ impl Endpoint {
         })
     }
 
-    /// Returns the endpoint to the state in which `new` makes it with the same setup and room (own rule): no
-    /// exclusive is open, no MUID is used up, the protocol and the profiles are those of the setup, and there
-    /// are no replies. The call takes no memory.
+    /// Returns the endpoint to the state in which `new` creates it with the same setup and `room` (own rule):
+    /// no exclusive is open, no MUID is used up, the protocol and the profiles are those of the setup, and
+    /// there are no replies. The call doesn't allocate.
     pub fn reset(&mut self)
         ensures { self.new ≡ record { held = reset_endpoint self.old.held; replies = [] } }
     {
@@ -139,15 +140,15 @@ impl Endpoint {
         replies.clear();
     }
 
-    /// Takes the next packet of the peer, one that some words decode to, and makes the replies to it: those
-    /// to a stream packet, or to the MIDI-CI message that a packet of an exclusive ends. Packets of other
-    /// kinds change nothing and have no reply (own rule). The result says what became of the message that
-    /// the packet ended, and which exclusive the packet cut off.
+    /// Takes the next packet of the peer, which some words must decode to, and makes the replies: to a stream
+    /// packet, or to the MIDI-CI message that is complete when the packet ends its exclusive. Packets of
+    /// other kinds change nothing and have no reply (own rule). The result says what the endpoint did with
+    /// the message that the packet ended, and which exclusive the packet cut off.
     ///
-    /// The offset, in bytes from the start of the input, is only stored, and returned as the place of an
-    /// exclusive that is lost; any number is allowed. `Err` is always `ExclusiveTooLong`, and is returned
-    /// exactly when the exclusive has more bytes than the room: it is dropped, nothing else changes, and the
-    /// endpoint may continue.
+    /// The offset counts bytes from the start of the input. It is only stored, and returned as the place of
+    /// an exclusive that is lost, so any number is allowed. The error is always `ExclusiveTooLong`. It is
+    /// returned exactly if the exclusive has more bytes than `room`. In that case the exclusive is dropped,
+    /// nothing else changes, and the endpoint may continue.
     pub fn packet(&mut self, packet: &Packet, offset: u64) -> Result<Taken, BadStep>
         requires { IsPacket packet.now }
         ensures held { self.new.held ≡ after_packet offset packet.now self.old.held }
@@ -178,8 +179,8 @@ impl Endpoint {
         }
     }
 
-    /// Returns the replies to the last packet, one packet at a time, until `packet` or `reset` is called (own
-    /// rule).
+    /// Returns the replies to the last packet, which can be read one packet at a time until `packet` or
+    /// `reset` is called (own rule).
     pub fn replies(&self) -> ReplyPackets<'_>
         ensures packets { result ≡ self.now.replies }
         ensures few { length self.now.replies ≤ MOST_REPLY_WORDS }
@@ -187,7 +188,7 @@ impl Endpoint {
         ReplyPackets::new(self.replies.words())
     }
 
-    /// Returns the setup of which the endpoint was made (own rule).
+    /// Returns the setup that was passed to `new` (own rule).
     pub fn setup(&self) -> &Setup
         ensures { result.now ≡ self.now.held.setup }
     {
@@ -201,24 +202,24 @@ impl Endpoint {
         self.config.protocol
     }
 
-    /// Returns the MUID in force of a function block, counted from 0 (M2-101-UM, MUID), or `None` exactly
-    /// when the block has no MIDI-CI or has used up its MUIDs, or when there is no such block.
+    /// Returns the MUID in force of a function block, counted from 0 (M2-101-UM, MUID). Returns `None`
+    /// exactly if there is no such block, or if it has no MIDI-CI or has used up its MUIDs.
     pub fn muid(&self, block: u8) -> Option<u32>
         ensures { result ≡ muid_in self.now.held.responder.blocks block }
     {
         self.responder.muid(block)
     }
 
-    /// Returns whether a profile is on (M2-101-UM, profile configuration), or `None` exactly when the setup
-    /// doesn't name it.
+    /// Returns whether a profile is enabled (M2-101-UM, profile configuration), or `None` exactly if the
+    /// setup doesn't name the profile.
     pub fn profile_is_on(&self, key: &Key) -> Option<bool>
         ensures { result ≡ state_in self.now.held.responder.states key.now }
     {
         self.responder.profile_is_on(key)
     }
 
-    /// Returns the offset of the packet that began the group's exclusive (M2-104-UM, system exclusive 7-bit
-    /// messages), or `None` exactly when none is open.
+    /// Returns the offset of the packet with which the group's open exclusive began (M2-104-UM, system
+    /// exclusive 7-bit messages), or `None` exactly if no exclusive is open.
     pub fn begun_at(&self, group: U4) -> Option<u64>
         ensures { result ≡ option_map (λ begun. begun.start) (begun_in self.now.held.exclusives group) }
     {

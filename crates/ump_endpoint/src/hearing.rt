@@ -1,4 +1,4 @@
-// The exclusives of a peer: joined by group, heard by the responder, and answered.
+// Joins the exclusives of a peer by group, and passes them to the responder.
 ghost use Rattle.std.specs.Prelude.{◌≡◌, ◌≤◌, [], length};
 ghost use Rattle.ci_messages.specs.Reading.{IsExclusive};
 ghost use Rattle.sysex_groups.specs.Exclusives.{IsData};
@@ -27,8 +27,8 @@ use sysex_groups::{Fed, Groups};
 use ump_grammar::Replies;
 use voice_messages::Form;
 
-// Hears an exclusive of a group, adds its reply to the replies, which are empty, and returns what became of
-// it.
+// Passes a group's exclusive to the responder, and adds the reply to `replies`, which is empty. Returns what
+// was done with the exclusive.
 fn hear(responder: &mut Responder, replies: &mut Replies, group: U4, message: &[u8]) -> Outcome
     requires message { IsExclusive message.now }
     requires empty { replies.old ≡ [] }
@@ -44,7 +44,7 @@ fn hear(responder: &mut Responder, replies: &mut Replies, group: U4, message: &[
     }
 }
 
-// The exclusive of a group that another one cut off.
+// Returns the line for a group's exclusive that another one cut off.
 fn cut_off(group: U4, cut_at: u64) -> Listed
     ensures { result ≡ cut_listed group cut_at }
 {
@@ -55,7 +55,7 @@ fn cut_off(group: U4, cut_at: u64) -> Listed
     }
 }
 
-/// A part of an exclusive: its group, its form, its bytes, and the offset of its packet.
+/// A part of an exclusive, with its group and form, and the offset of its packet.
 #[derive(Clone, Copy, Debug)]
 pub(crate) struct PlacedPart<'a> {
     pub(crate) group: U4,
@@ -64,8 +64,8 @@ pub(crate) struct PlacedPart<'a> {
     pub(crate) offset: u64,
 }
 
-/// Takes one more part of an exclusive of a group, and answers the message that it ends: adds its reply to
-/// the replies, which are empty. One that is too long is refused.
+/// Takes one more part of a group's exclusive. If the part ends a message, the reply is added to `replies`,
+/// which is empty. An exclusive that is too long is refused.
 pub(crate) fn take_part(
     groups: &mut Groups,
     responder: &mut Responder,

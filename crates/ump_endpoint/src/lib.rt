@@ -1,5 +1,9 @@
-//! A UMP Endpoint of MIDI 2.0: takes one packet at a time, and gives
-//! its replies to stream messages and to MIDI-CI.
+//! Answers a MIDI 2.0 peer as a UMP Endpoint does: takes one packet at a time, and returns the replies to
+//! stream messages and to MIDI-CI messages.
+//!
+//! Start with [`Endpoint`]: `new` takes a `function_blocks::Setup` and allocates, and `packet` takes one
+//! packet and returns a [`Taken`], which says what the endpoint did. Then `replies` returns the
+//! [`ReplyPackets`].
 #![tactic(auto)]
 
 mod endpoint;

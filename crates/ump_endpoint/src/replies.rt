@@ -1,12 +1,12 @@
-// The packets of replies, one after the other.
+// The packets of the replies, one after the other.
 ghost use Rattle.std.specs.Prelude.{◌≡◌, ◌<◌, ◌≤◌, ◌==◌, IfSome, drop, is_none, length, slice_index, take};
 ghost use Rattle.packet_words.specs.Words.{words_asked};
 
 use packet_words::words::words_in_packet;
 use std::marker::Model;
 
-/// The packets of the replies that are still to be read, borrowed from the endpoint that made them. A
-/// contract sees it as the list of their words.
+/// The packets of the replies that haven't been read yet, borrowed from the endpoint that made them. In
+/// contracts its value is the list of their words.
 #[derive(Debug, Drop)]
 pub struct ReplyPackets<'a> {
     words: &'a [u32],
@@ -21,14 +21,14 @@ impl<'a> Model for ReplyPackets<'a> {
 }
 
 impl<'a> ReplyPackets<'a> {
-    /// The packets that stand in these words one after the other.
+    /// Creates the packets that these words spell, one after the other.
     pub(crate) fn new(words: &'a [u32]) -> Self
         ensures { result ≡ words.now }
     {
         ReplyPackets { words }
     }
 
-    /// Tests whether no packet is left (own rule).
+    /// Returns whether no packet is left (own rule).
     pub fn is_empty(&self) -> bool
         ensures { result ≡ (length self.now == 0) }
     {
@@ -42,8 +42,8 @@ impl<'a> ReplyPackets<'a> {
         self.words
     }
 
-    /// Takes the next packet. Returns its words, 1 to 4 as its first word says (M2-104-UM, message types), or
-    /// `None` exactly when no packet is left.
+    /// Removes the next packet and returns its words. There are 1 to 4, as the first word says (M2-104-UM,
+    /// message types). Returns `None` exactly if no packet is left.
     pub fn next(&mut self) -> Option<&'a [u32]>
         ensures none { is_none result ≡ (length self.old == 0) }
         ensures words { IfSome result (λ words.

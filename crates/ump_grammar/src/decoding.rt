@@ -1,4 +1,4 @@
-// From words to packets.
+// Decodes words to packets.
 ghost use Rattle.std.specs.Prelude.{◌≡◌, ◌<◌, length, false, IfOk, MatchOption};
 ghost use Rattle.packet_words.specs.Words.{IsWhole};
 ghost use Rattle.ump_grammar.specs.WordFields.{type_of};
@@ -20,10 +20,13 @@ use packet_words::{Framed, Words};
 use small_types::ShortList;
 use voice_messages::Form;
 
-/// The packet that the words spell (M2-104-UM); they are as many as the type in the first one has.
-/// `Err(BadCount)` is returned exactly when a 7-bit exclusive of form 0 to 3 counts more than six bytes, and
-/// `Err(HighBit)` exactly when another packet has a byte of 128 or more that carries seven bits: of an
-/// exclusive those that it counts, of a program's bank those of a bank that is there.
+/// Returns the packet that the words encode (M2-104-UM). The message type in the first word determines how
+/// many words there are.
+///
+/// * `Err(BadCount)` is returned exactly if a 7-bit exclusive of form 0 to 3 counts more than six bytes.
+/// * `Err(HighBit)` is returned exactly if another packet has 128 or more in a byte that carries seven
+///   bits. In an exclusive, these are the bytes that it counts. The bytes of a program's bank are among
+///   them only if the packet has a bank.
 #[tactic(auto, using(crate::proofs::Fitting::decoded_fits))]
 #[inline(always)]
 pub fn decode(framed: &Framed) -> Result<Packet, Bad>
@@ -61,7 +64,7 @@ fn utility(words: &Words) -> Result<Packet, Bad>
     })
 }
 
-// Whether a byte is the status of a system common or system real time message.
+// Returns whether a byte is the status of a system common or system real time message.
 fn is_system_status(status: u8) -> bool
     ensures { result ≡ is_status status }
 {
@@ -166,7 +169,7 @@ fn stream(words: &Words) -> Result<Packet, Bad>
     })
 }
 
-// Words of a reserved type, status, opcode or form.
+// Decodes words of a reserved type, status, opcode or form.
 fn reserved(words: &Words) -> Result<Packet, Bad>
     requires whole { IsWhole words.now }
     requires none { has_row words.now ≡ false }
@@ -205,8 +208,8 @@ fn exclusive(words: &Words) -> Result<Packet, Bad>
     })
 }
 
-/// The form of this number (M2-104-UM, formats of stream messages and of 7-bit exclusives): 0 complete, 1
-/// start, 2 continue, 3 end; `None` exactly above 3.
+/// Returns the form of this number (M2-104-UM, formats of stream messages and of 7-bit exclusives): 0
+/// complete, 1 start, 2 continue, 3 end; `None` exactly if the number is above 3.
 pub fn form_of(number: u32) -> Option<Form>
     ensures { MatchOption result (3 < number) (λ form. number ≡ form_number form) }
 {
@@ -219,7 +222,8 @@ pub fn form_of(number: u32) -> Option<Form>
     }
 }
 
-/// Bytes 3 to 8, the places for the bytes of a 7-bit exclusive (M2-104-UM, system exclusive 7-bit messages).
+/// Returns bytes 3 to 8 of the packet, the places for the bytes of a 7-bit exclusive (M2-104-UM, system
+/// exclusive 7-bit messages).
 #[inline(always)]
 pub fn exclusive_bytes(words: &[u32]) -> [u8; 6]
     requires { length words.now ≡ 2 }
@@ -230,7 +234,7 @@ pub fn exclusive_bytes(words: &[u32]) -> [u8; 6]
     [byte3, byte4, byte5, byte6, byte7, byte8]
 }
 
-// Whether some byte is 128 or more.
+// Returns whether any byte is 128 or more.
 fn has_high(bytes: &[u8]) -> bool
     ensures { result ≡ is_any_high bytes.now }
 {

@@ -1,4 +1,4 @@
-// From packets to words.
+// Encodes packets as words.
 ghost use Rattle.std.specs.Prelude.{◌≡◌, ◌≤◌, ◌<◌, ◌+◌, ◌*◌, ◌/◌, ◌%◌, ◌^◌, length, slice_index, [], ◌∷◌};
 ghost use Rattle.packet_words.specs.Words.{IsWhole};
 ghost use Rattle.ump_grammar.specs.WordFields.{
@@ -19,8 +19,8 @@ use crate::packet::Packet;
 use packet_words::Words;
 use voice_messages::{Bank, Form, Param, ParamKind, System, U4, U7, U14, Voice1, Voice2};
 
-/// The words that spell the packet (M2-104-UM), with zeros in the places that its row doesn't name. The
-/// packet is one that some words decode to.
+/// Returns the words that encode the packet (M2-104-UM), with zeros in the places that its row doesn't
+/// name. The packet must be one that some words decode to.
 #[inline(always)]
 #[tactic(auto, using(crate::proofs::OnePacket::one_packet))]
 pub fn encode(packet: &Packet) -> Words
@@ -53,7 +53,7 @@ pub fn encode(packet: &Packet) -> Words
     }
 }
 
-// The word of these bytes, of which the first two are given by halves.
+// Returns the word of four bytes, with the first two given as halves.
 fn first_word(kind: u8, group: U4, opcode: u8, low: u8, third: u8, fourth: u8) -> u32
     requires kind { kind < 16 }
     requires opcode { opcode < 16 }
@@ -73,7 +73,7 @@ fn first_word(kind: u8, group: U4, opcode: u8, low: u8, third: u8, fourth: u8) -
     word_of(first, second, third, fourth)
 }
 
-// The word of four bytes.
+// Returns the word of four bytes.
 fn word_of(first: u8, second: u8, third: u8, fourth: u8) -> u32
     ensures { result ≡ first * 2 ^ 24 + second * 2 ^ 16 + third * 2 ^ 8 + fourth }
 {
@@ -98,7 +98,7 @@ fn stream_word(format: u8, status: u16, low: u16) -> u32
     (0xF << 28) + (u32::from(format) << 26) + (u32::from(status) << 16) + u32::from(low)
 }
 
-// A type 1 packet with this status byte.
+// Returns a packet of type 1 with this status byte.
 fn system_word(group: U4, status: u8, third: u8, fourth: u8) -> Words
     ensures whole { IsWhole result }
     ensures kind { type_of result ≡ 0x1 }
@@ -128,14 +128,14 @@ fn system(group: U4, message: &System) -> Words
     }
 }
 
-// The data byte that comes first.
+// Returns the data byte that comes first.
 fn low_byte(value: U14) -> u8
     ensures { result ≡ value % 128 }
 {
     (value.get() % 128) as u8
 }
 
-// The data byte that comes second.
+// Returns the data byte that comes second.
 fn high_byte(value: U14) -> u8
     ensures value { result ≡ value / 128 }
     ensures below { result < 128 }
@@ -143,7 +143,7 @@ fn high_byte(value: U14) -> u8
     (value.get() / 128) as u8
 }
 
-// A type 2 packet with this opcode.
+// Returns a packet of type 2 with this opcode.
 fn voice1_word(group: U4, opcode: u8, channel: U4, third: u8, fourth: u8) -> Words
     requires { opcode < 16 }
     ensures whole { IsWhole result }
@@ -196,7 +196,7 @@ fn voice1(group: U4, message: &Voice1) -> Words
     }
 }
 
-// A type 4 packet with this opcode.
+// Returns a packet of type 4 with this opcode.
 fn voice2_words(
     group: U4,
     opcode: u8,
@@ -221,7 +221,7 @@ fn voice2_words(
     Words::from_slice(&[first, second_word])
 }
 
-// A row for each kind of message.
+// Encodes a MIDI 2.0 channel voice message, with one row for each kind of message.
 fn voice2(group: U4, message: &Voice2) -> Words
     requires { IsPacket (Packet.Voice2 group message.now) }
     ensures { Encodes (Packet.Voice2 group message.now) result }
@@ -275,7 +275,7 @@ fn voice2(group: U4, message: &Voice2) -> Words
     }
 }
 
-// The row of a parameter: this opcode of a registered one, the next of an assignable one.
+// Encodes a parameter: a registered one has this opcode, an assignable one has the next.
 fn param_words(group: U4, opcode: u8, channel: U4, param: Param, value: u32) -> Words
     requires { opcode < 15 }
     ensures whole { IsWhole result }
@@ -298,7 +298,7 @@ fn param_words(group: U4, opcode: u8, channel: U4, param: Param, value: u32) -> 
     )
 }
 
-// The row of programs.
+// Encodes a program change.
 fn program_words(group: U4, channel: U4, program: U7, bank: Option<Bank>) -> Words
     requires { IsPacket (Packet.Voice2 group (Voice2.Program channel program bank)) }
     ensures { Encodes (Packet.Voice2 group (Voice2.Program channel program bank)) result }
@@ -312,7 +312,7 @@ fn program_words(group: U4, channel: U4, program: U7, bank: Option<Bank>) -> Wor
     }
 }
 
-// The word of two halves.
+// Returns the word of two halves.
 fn halves(high: u16, low: u16) -> u32
     ensures high { field result 16 16 ≡ high }
     ensures low { field result 0 16 ≡ low }
@@ -330,7 +330,7 @@ fn kind_bit(kind: ParamKind) -> u8
     }
 }
 
-/// The number of a form (M2-104-UM, formats of stream messages and of 7-bit exclusives), 0 to 3.
+/// Returns the number of a form, 0 to 3 (M2-104-UM, formats of stream messages and of 7-bit exclusives).
 pub fn form_bits(form: Form) -> u8
     ensures number { result ≡ form_number form }
     ensures below { result < 4 }
@@ -343,14 +343,14 @@ pub fn form_bits(form: Form) -> u8
     }
 }
 
-// The byte at index `i`, or a zero past the last.
+// Returns the byte at index `i`, or 0 past the last byte.
 fn place(bytes: &[u8], i: usize) -> u8
     ensures { result ≡ slice_index bytes.now i }
 {
     bytes.get(i).copied().unwrap_or(0)
 }
 
-// A type 3 packet with these bytes, and zeros after them.
+// Returns a packet of type 3 with these bytes, and zeros after them.
 fn exclusive_words(group: U4, form: Form, bytes: &[u8]) -> Words
     requires { length bytes.now ≤ 6 }
     ensures whole { IsWhole result }

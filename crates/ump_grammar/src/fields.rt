@@ -1,10 +1,11 @@
-// Fields of words.
+// The fields of words.
 ghost use Rattle.std.specs.Prelude.{◌≡◌, ◌<◌, ◌≤◌, MatchOption};
 ghost use Rattle.ump_grammar.specs.WordFields.{field};
 
 use voice_messages::{U4, U7};
 
-/// The field of `width` bits from bit `low` on, both below 32, counting bits from 0, the lowest.
+/// Returns the field of `width` bits that begins at bit `low`. Both are below 32, and bit 0 is the lowest
+/// bit.
 pub fn bits(word: u32, low: u32, width: u32) -> u32
     requires { (low < 32) × (width < 32) }
     ensures { result ≡ field word low width }
@@ -12,7 +13,7 @@ pub fn bits(word: u32, low: u32, width: u32) -> u32
     (word >> low) % (1 << width)
 }
 
-/// The field of four bits from bit `low` on, which is below 32.
+/// Returns the field of four bits that begins at bit `low`, which is below 32.
 pub fn nibble(word: u32, low: u32) -> U4
     requires { low < 32 }
     ensures { result ≡ field word low 4 }
@@ -20,7 +21,7 @@ pub fn nibble(word: u32, low: u32) -> U4
     U4::low_bits(word >> low)
 }
 
-/// The field of eight bits from bit `low` on, which is below 32.
+/// Returns the field of eight bits that begins at bit `low`, which is below 32.
 pub fn byte(word: u32, low: u32) -> u8
     requires { low < 32 }
     ensures { result ≡ field word low 8 }
@@ -28,7 +29,7 @@ pub fn byte(word: u32, low: u32) -> u8
     ((word >> low) % 256) as u8
 }
 
-/// The field of sixteen bits from bit `low` on, which is below 32.
+/// Returns the field of sixteen bits that begins at bit `low`, which is below 32.
 pub fn half(word: u32, low: u32) -> u16
     requires { low < 32 }
     ensures { result ≡ field word low 16 }
@@ -36,8 +37,8 @@ pub fn half(word: u32, low: u32) -> u16
     ((word >> low) % 0x1_0000) as u16
 }
 
-/// The field of eight bits from bit `low` on, which is below 32;
-/// `None` exactly when the field is 128 or more.
+/// Returns the field of eight bits that begins at bit `low`, which is below 32, or `None` exactly if the
+/// field is 128 or more.
 pub fn data_byte(word: u32, low: u32) -> Option<U7>
     requires { low < 32 }
     ensures { MatchOption result (128 ≤ field word low 8) (λ b. (b ≡ field word low 8) × (b < 128)) }

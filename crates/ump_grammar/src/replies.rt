@@ -8,8 +8,8 @@ use crate::packet::Packet;
 use small_types::ShortList;
 use std::marker::Model;
 
-/// At most 1,024 words of packets that are to be sent, kept in place, without memory from an allocator. A
-/// contract sees it as the list of the words.
+/// A list of at most 1,024 words of packets to be sent, stored inline without heap memory. In contracts its
+/// value is the list of the words.
 #[derive(Debug, Drop)]
 pub struct Replies {
     words: ShortList<u32, 1024>,
@@ -24,7 +24,7 @@ impl Model for Replies {
 }
 
 impl Replies {
-    /// No words.
+    /// Creates an empty list.
     pub fn new() -> Self
         ensures { result ≡ [] }
     {
@@ -33,8 +33,8 @@ impl Replies {
         }
     }
 
-    /// Appends the words of the packet, as `encode` gives them (M2-104-UM), if no more than 1,024 words
-    /// stand afterwards. The packet is one that some words decode to.
+    /// Appends the words of the packet, as `encode` returns them (M2-104-UM). The list must have at most
+    /// 1,024 words afterwards, and the packet must be one that some words decode to.
     pub fn push(&mut self, packet: &Packet)
         requires packet { IsPacket packet.now }
         requires fits { length self.old + word_count packet.now ≤ 1024 }
@@ -54,7 +54,7 @@ impl Replies {
         self.words.clear();
     }
 
-    /// The words, at most 1,024.
+    /// Returns the words, at most 1,024.
     pub fn words(&self) -> &[u32]
         ensures words { result.now ≡ self.now }
         ensures fits { length self.now ≤ 1024 }

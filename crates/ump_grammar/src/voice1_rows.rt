@@ -1,4 +1,4 @@
-// The rows of system messages and of the MIDI 1.0 protocol's channel voice messages.
+// The rows of system messages and of MIDI 1.0 channel voice messages.
 ghost use Rattle.std.specs.Prelude.{◌≡◌, ◌≤◌, ◌⊎◌, ◌+◌, ◌*◌, length, true};
 ghost use Rattle.ump_grammar.specs.WordFields.{byte as byte_of, opcode_of};
 ghost use Rattle.ump_grammar.specs.Reading.{ReadsSystem, ReadsVoice1};
@@ -7,14 +7,15 @@ ghost use Rattle.ump_grammar.specs.Spelling.{is_system_status};
 use crate::fields::{bits, data_byte, nibble};
 use voice_messages::{System, U7, U14, Voice1};
 
-// The number in two data bytes, the low one first.
+// Returns the number in two data bytes, with the low byte first.
 fn both(low: U7, high: U7) -> U14
     ensures { result ≡ low + 128 * high }
 {
     U14::low_bits(u32::from(low.get()) + 128 * u32::from(high.get()))
 }
 
-/// The message of a type 1 packet; `None` exactly when a byte that carries seven bits is 128 or more.
+/// Returns the message of a type 1 packet, or `None` exactly if a byte that carries seven bits is 128 or
+/// more.
 #[inline(always)]
 pub fn system_message(words: &[u32]) -> Option<System>
     requires size { length words.now ≡ 1 }
@@ -36,7 +37,8 @@ pub fn system_message(words: &[u32]) -> Option<System>
     })
 }
 
-/// The message of a type 2 packet; `None` exactly when a byte that carries seven bits is 128 or more.
+/// Returns the message of a type 2 packet, or `None` exactly if a byte that carries seven bits is 128 or
+/// more.
 #[inline(always)]
 pub fn voice1_message(words: &[u32]) -> Option<Voice1>
     requires size { length words.now ≡ 1 }
@@ -49,7 +51,7 @@ pub fn voice1_message(words: &[u32]) -> Option<Voice1>
     }
 }
 
-// The rows with one data byte.
+// Decodes the rows with one data byte.
 #[inline(always)]
 fn one_byte_message(words: &[u32]) -> Option<Voice1>
     requires size { length words.now ≡ 1 }
@@ -71,7 +73,7 @@ fn one_byte_message(words: &[u32]) -> Option<Voice1>
     })
 }
 
-// The rows with two data bytes.
+// Decodes the rows with two data bytes.
 #[inline(always)]
 fn two_byte_message(words: &[u32]) -> Option<Voice1>
     requires size { length words.now ≡ 1 }

@@ -1,4 +1,4 @@
-// The rows of the MIDI 2.0 protocol's channel voice messages.
+// The rows of MIDI 2.0 channel voice messages.
 ghost use Rattle.std.specs.Prelude.{◌≡◌, ◌≢◌, ◌≤◌, ◌⊎◌, length, Some};
 ghost use Rattle.ump_grammar.specs.WordFields.{opcode_of};
 ghost use Rattle.ump_grammar.specs.Reading.{ReadsVoice2};
@@ -6,7 +6,8 @@ ghost use Rattle.ump_grammar.specs.Reading.{ReadsVoice2};
 use crate::fields::{bits, byte, data_byte, half, nibble};
 use voice_messages::{Bank, Param, ParamKind, Voice2};
 
-/// The message of a type 4 packet; `None` exactly when a byte that carries seven bits is 128 or more.
+/// Returns the message of a type 4 packet, or `None` exactly if a byte that carries seven bits is 128 or
+/// more.
 #[inline(always)]
 pub fn voice2_message(words: &[u32]) -> Option<Voice2>
     requires size { length words.now ≡ 2 }
@@ -27,7 +28,7 @@ pub fn voice2_message(words: &[u32]) -> Option<Voice2>
     }
 }
 
-// The rows of controllers of one note: opcode 0 of registered ones, 1 of assignable ones.
+// Decodes a controller of one note: a registered one has opcode 0, an assignable one has opcode 1.
 #[inline(always)]
 fn note_controller(words: &[u32]) -> Option<Voice2>
     requires size { length words.now ≡ 2 }
@@ -49,7 +50,7 @@ fn note_controller(words: &[u32]) -> Option<Voice2>
     })
 }
 
-// The row of the bend of one note.
+// Decodes the bend of one note.
 #[inline(always)]
 fn note_bend(words: &[u32]) -> Option<Voice2>
     requires size { length words.now ≡ 2 }
@@ -64,7 +65,7 @@ fn note_bend(words: &[u32]) -> Option<Voice2>
     })
 }
 
-// The row of a note off.
+// Decodes a note off.
 #[inline(always)]
 fn note_off(words: &[u32]) -> Option<Voice2>
     requires size { length words.now ≡ 2 }
@@ -81,7 +82,7 @@ fn note_off(words: &[u32]) -> Option<Voice2>
     })
 }
 
-// The row of a note on.
+// Decodes a note on.
 #[inline(always)]
 fn note_on(words: &[u32]) -> Option<Voice2>
     requires size { length words.now ≡ 2 }
@@ -98,7 +99,7 @@ fn note_on(words: &[u32]) -> Option<Voice2>
     })
 }
 
-// The row of the pressure of one note.
+// Decodes the pressure of one note.
 #[inline(always)]
 fn poly_pressure(words: &[u32]) -> Option<Voice2>
     requires size { length words.now ≡ 2 }
@@ -113,7 +114,7 @@ fn poly_pressure(words: &[u32]) -> Option<Voice2>
     })
 }
 
-// The row of a control change.
+// Decodes a control change.
 #[inline(always)]
 fn control(words: &[u32]) -> Option<Voice2>
     requires size { length words.now ≡ 2 }
@@ -128,7 +129,7 @@ fn control(words: &[u32]) -> Option<Voice2>
     })
 }
 
-// The row of the management of one note.
+// Decodes the management of one note.
 #[inline(always)]
 fn note_management(words: &[u32]) -> Option<Voice2>
     requires size { length words.now ≡ 2 }
@@ -143,7 +144,7 @@ fn note_management(words: &[u32]) -> Option<Voice2>
     })
 }
 
-// The rows of parameters: opcodes 2 and 3 set one, 4 and 5 shift it.
+// Decodes a parameter: opcodes 2 and 3 set it, opcodes 4 and 5 shift it.
 #[inline(always)]
 fn parameter_message(words: &[u32]) -> Option<Voice2>
     requires size { length words.now ≡ 2 }
@@ -175,7 +176,7 @@ fn parameter_message(words: &[u32]) -> Option<Voice2>
     })
 }
 
-// The row of programs.
+// Decodes a program change.
 #[inline(always)]
 fn program_message(words: &[u32]) -> Option<Voice2>
     requires size { length words.now ≡ 2 }
@@ -200,7 +201,7 @@ fn program_message(words: &[u32]) -> Option<Voice2>
     })
 }
 
-// The rows without a note.
+// Decodes the rows without a note.
 #[inline(always)]
 fn channel_message(words: &[u32]) -> Voice2
     requires size { length words.now ≡ 2 }

@@ -1,4 +1,4 @@
-// Words to a sink.
+// Writes words to a sink.
 ghost use Rattle.std.specs.Prelude.{◌≤◌, ◌<◌, length, flat_map};
 ghost use Rattle.outside.specs.Outside.{HasCause, PutsPiece};
 ghost use Rattle.packet_words.specs.Words.{word_bytes};
@@ -6,9 +6,9 @@ ghost use Rattle.packet_words.specs.Words.{word_bytes};
 use outside::{Failed, Sink};
 use packet_words::{Order, write_words};
 
-/// Puts the bytes of these words, one to four, one word after the other, in a single put. At an `Err`,
-/// which comes only if the count of the output's faults rose, a front of them that isn't all of them may
-/// have been put.
+/// Writes the bytes of one to four words, one word after the other, with a single `put`. An `Err` is
+/// returned only if the count of the output's faults rose; then a prefix of the bytes that isn't all of
+/// them may have been written.
 #[inline(always)]
 pub fn put_words<W: Sink>(words: &[u32], order: Order, output: &mut W) -> Result<(), Failed>
     requires { (0 < length words.now) × (length words.now ≤ 4) }

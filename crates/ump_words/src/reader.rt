@@ -14,8 +14,9 @@ use packet_words::words::{word_in, words_in, words_in_packet};
 use packet_words::{Framed, Order};
 use std::marker::Model;
 
-/// How a stream is cut into packets: each has the number of words that the message type of its first word
-/// requires (M2-104-UM, message types), and their bytes have this order. A contract sees the order alone.
+/// The way of cutting a stream into packets: the message type of a packet's first word determines the
+/// number of words (M2-104-UM, message types). The words have this byte order, and in contracts the value
+/// is the byte order alone.
 #[derive(Drop)]
 pub struct Packets {
     order: Order,
@@ -42,7 +43,7 @@ impl Cut for Packets {
             return 4;
         }
         let first = word_in(self.order, bytes, 0);
-        // The channel voice messages of MIDI 2.0, which are most of them: their length rests on no table.
+        // Most packets are MIDI 2.0 channel voice messages, so their length doesn't need a table.
         if first >> 28 == 4 {
             8
         } else {
@@ -61,7 +62,7 @@ impl Cut for Packets {
     ghost lengths = { packet_lengths };
 }
 
-/// Cuts the bytes of a source into packets. To a contract it is its `Reading`.
+/// Cuts the bytes of a source into packets. In contracts its value is its `Reading`.
 #[derive(Drop)]
 pub struct WordReader {
     packets: ItemReader<Packets>,
@@ -76,8 +77,8 @@ impl Model for WordReader {
 }
 
 impl WordReader {
-    /// A reader that has given out nothing yet. It gives out at most `limit` bytes, which is at most 2^62
-    /// (own rule); offsets count bytes from 0.
+    /// Creates a reader that has returned nothing yet. It returns packets from at most `limit` bytes, which
+    /// is at most 2^62 (own rule). Offsets are counted in bytes from 0.
     pub fn new(order: Order, limit: u64) -> Self
         requires { limit ≤ 2 ^ 62 }
         ensures { result ≡ new_reading order limit }
@@ -87,15 +88,18 @@ impl WordReader {
         }
     }
 
-    /// The next packet (M2-104-UM, message types) and its offset, the number of bytes before it; `None`
-    /// when the source ends with the last packet.
+    /// Returns the next packet (M2-104-UM, message types) with its offset, the number of bytes before it,
+    /// or `None` if the source ends with the last packet.
     ///
-    /// `Truncated` is returned when the source ends within the limit and within a packet: after some of
-    /// the bytes that the message type requires, or of the first word. It carries the offset of that
-    /// packet. `TooLong` is returned when the source gave more bytes than the limit, and the rest within
-    /// the limit is no whole packet (own rule). `Read` is returned only when the source's count of faults
-    /// rose; no byte is lost, and a later call continues from there. Every later call repeats any other
-    /// answer without a packet. The reader asks the source only when it holds no whole packet.
+    /// * `Truncated`: the source ended within the limit and within a packet, after some of the bytes that
+    ///   the message type requires, or some bytes of the first word. It has the offset of that packet.
+    /// * `TooLong`: the source returned more bytes than the limit, and the remaining bytes within the limit
+    ///   are no whole packet (own rule).
+    /// * `Read`: returned only if the source's count of faults rose. No byte is lost, and a later call
+    ///   continues from there.
+    ///
+    /// After any other result without a packet, every later call returns the same. The reader reads the
+    /// source only if it has no whole packet.
     #[inline(always)]
     pub fn next<S: Source>(&mut self, src: &mut S) -> Result<Option<Framed>, ReadStop>
         ensures answer { self.old.end ≡ None →
@@ -110,8 +114,8 @@ impl WordReader {
         self.packets.next(src)
     }
 
-    /// No whole packet (M2-104-UM, message types) is held within the limit, so
-    /// that `next` asks the source, unless the packets have ended.
+    /// Returns whether no whole packet (M2-104-UM, message types) has been read ahead within the limit. If
+    /// so, `next` reads the source, unless the packets have ended.
     #[inline(always)]
     pub fn needs_input(&self) -> bool
         ensures { result ≡ needs_input (bytes_asked self.now.how) self.now }
@@ -119,9 +123,9 @@ impl WordReader {
         self.packets.needs_input()
     }
 
-    /// The bytes that the reader holds and may give out, and the offset of the first of them, counted in
-    /// bytes from 0. A caller that reads many packets finds them here by `item_in`, and reports by `pass`
-    /// how many bytes it has used.
+    /// Returns the bytes that the reader has read ahead and may return, and the offset of the first of
+    /// them, counted in bytes from 0. A caller that reads many packets takes them from here with `item_in`,
+    /// and then tells `pass` how many bytes it has used.
     #[inline(always)]
     pub fn held(&self) -> (&[u8], u64)
         ensures bytes { result.0.now ≡ held_bytes self.now }
@@ -130,9 +134,10 @@ impl WordReader {
         self.packets.held()
     }
 
-    /// The packet (M2-104-UM, message types) that begins after `at` of the bytes that `held` returned,
-    /// with its offset and the place where the next one begins: what `next` would return there. `None`
-    /// exactly if no whole packet begins there. `offset` is the offset of the first of the bytes.
+    /// Returns the packet (M2-104-UM, message types) that begins at place `at` of the bytes that `held`
+    /// returned, with its offset, and the place at which the next packet begins: `next` would return the
+    /// same packet there. `None` exactly if no whole packet begins at that place. `offset` is the offset of
+    /// the first byte of `held`.
     #[inline(always)]
     pub fn item_in(&self, held: &[u8], offset: u64, at: usize) -> Option<(Framed, usize)>
         requires held { held.now ≡ held_bytes self.now }
@@ -145,9 +150,9 @@ impl WordReader {
         self.packets.item_in(held, offset, at)
     }
 
-    /// The two words that begin after `at` of the bytes that `held` returned; `None` exactly if there are
-    /// fewer than 8 bytes. If the message type of the first word requires two (M2-104-UM, message types),
-    /// they are the packet that is held there.
+    /// Returns the two words that begin at place `at` of the bytes that `held` returned, or `None` exactly
+    /// if there are fewer than 8 bytes. If the message type of the first word requires two words
+    /// (M2-104-UM, message types), they are the packet that `next` would return there.
     #[inline(always)]
     pub fn two_in(&self, held: &[u8], at: usize) -> Option<(u32, u32)>
         requires held { held.now ≡ held_bytes self.now }
@@ -167,8 +172,8 @@ impl WordReader {
         Some((word_in(order, rest, 0), word_in(order, rest, 1)))
     }
 
-    /// Goes on after the first `count` bytes of those that `held` gives, as after packets that were given
-    /// out.
+    /// Skips the first `count` of the bytes that `held` returns, as if the packets in them had been
+    /// returned.
     #[inline(always)]
     pub fn pass(&mut self, count: usize)
         requires { count ≤ allowed_bytes self.old }
@@ -177,9 +182,9 @@ impl WordReader {
         self.packets.pass(count);
     }
 
-    /// Asks the source until a whole packet (M2-104-UM, message types) is held, unless the packets have
-    /// ended. `true` says that one is held; the answers without a packet are those of `next`, with
-    /// `false` for its `None`. The reader asks the source only when it holds no whole packet.
+    /// Reads the source until the reader has a whole packet (M2-104-UM, message types), unless the packets
+    /// have ended, and returns `true` if it has one. Without a packet, it returns what `next` would return,
+    /// with `false` instead of `None`. The reader reads the source only if it has no whole packet.
     #[inline(always)]
     pub fn more<S: Source>(&mut self, src: &mut S) -> Result<bool, ReadStop>
         ensures answer { self.old.end ≡ None →

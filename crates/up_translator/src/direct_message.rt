@@ -1,4 +1,5 @@
-// Messages that are raised alone, whatever came before (M2-104-UM, translation from MIDI 1.0; M2-115-U).
+// Messages that are translated alone, whatever came before (M2-104-UM, translation from MIDI 1.0;
+// M2-115-U).
 ghost use Rattle.std.specs.Prelude.{◌≡◌, ◌≢◌, ◌<◌, ◌/◌, ◌==◌, if◌then◌else◌};
 ghost use Rattle.bit_scaling.specs.Scaling.{up};
 ghost use Rattle.midi1_bytes.specs.Messages.{fourteen_bits};
@@ -17,11 +18,11 @@ use midi1_bytes::VoiceBytes;
 use std::marker::Model;
 use voice_messages::{U4, U7, U14};
 
-/// The value of the note off that a note on of velocity 0 becomes: the
-/// velocity in its upper half, and no attribute (own rule).
+/// The value of the note off into which a note on of velocity 0 is translated: the velocity in its upper
+/// half, and no attribute (own rule).
 const RELEASE: u32 = 0x8000_0000;
 
-// The index of a control change; for other messages one that is direct.
+// Returns the index of a control change, or a direct index for any other message.
 #[inline(always)]
 fn index_of(opcode: u8, first: u8) -> U7
     requires { first < 128 }
@@ -30,9 +31,9 @@ fn index_of(opcode: u8, first: u8) -> U7
     U7::low_bits(if opcode == 0xB { u32::from(first) } else { 64 })
 }
 
-/// Whether a message neither takes nor changes what control changes set: a note off or on, a pressure, a
-/// bend, or a direct control change. Branchless, since the kind of the next message can't be predicted: one
-/// without an index counts as a control change that is direct.
+/// Returns whether a message neither uses nor changes the values that control changes set: a note off or
+/// on, a pressure, a bend, or a direct control change. The kind of the next message can't be predicted, so
+/// the function has no branch: a message without an index counts as a direct control change.
 #[inline(always)]
 pub fn goes_direct(direct: &DirectControls, bytes: &VoiceBytes) -> bool
     ensures { result ≡ goes_direct direct.now (voice_in bytes.now) }
@@ -41,7 +42,7 @@ pub fn goes_direct(direct: &DirectControls, bytes: &VoiceBytes) -> bool
     (opcode != 0xC) & direct.has(index_of(opcode, bytes.first))
 }
 
-// The value of a bend.
+// Returns the value of a bend.
 #[inline(always)]
 fn bend_of(first: u8, second: u8) -> u32
     requires first_below { first < 128 }
@@ -51,8 +52,8 @@ fn bend_of(first: u8, second: u8) -> u32
     up14(U14::low_bits(u32::from(second) * 128 + u32::from(first)))
 }
 
-// The value of any other message, by the opcode. The upper half of a value that is raised to 32 bits is the
-// value raised to 16, as a velocity is.
+// Returns the value of any message but a bend, by the opcode. The upper half of a value that is scaled up
+// to 32 bits is the value scaled up to 16 bits, as for a velocity.
 #[tactic(auto, using(crate::proofs::DirectLaws::upper_half))]
 #[inline(always)]
 fn value_of(opcode: u8, first: u8, second: u8) -> u32
@@ -70,8 +71,8 @@ fn value_of(opcode: u8, first: u8, second: u8) -> u32
     }
 }
 
-// The fields of the message. Those of a silent note are chosen branchless, since the next velocity can't be
-// predicted. Few messages are bends, so their value is raised only for them.
+// Returns the fields of the message. The next velocity can't be predicted, so the fields of a silent note
+// are chosen without a branch. Few messages are bends, so a bend's value is scaled up only for them.
 #[inline(always)]
 fn fields(group: U4, bytes: &VoiceBytes) -> DirectMessage
     ensures { result ≡ raised_by (bytes.now.status / 16) group bytes.now.status
@@ -98,8 +99,9 @@ fn fields(group: U4, bytes: &VoiceBytes) -> DirectMessage
     }
 }
 
-/// A voice message that is raised alone, with its group. It is raised only when its words are asked for, so
-/// that a caller can do other work first. A contract sees the message to which it is raised.
+/// A voice message that is translated alone, with its group. The words are computed only when the caller
+/// asks for them, so that the caller can do other work first. In contracts its value is the message into
+/// which it is translated.
 #[derive(Debug, Drop)]
 pub struct DirectVoice {
     group: U4,
@@ -118,7 +120,7 @@ impl Model for DirectVoice {
 }
 
 impl DirectVoice {
-    /// A voice message that is no program change, in a group.
+    /// Creates the value for a voice message that isn't a program change, in a group.
     #[inline(always)]
     pub(crate) fn of(group: U4, bytes: &VoiceBytes) -> DirectVoice
         requires { bytes.now.status / 16 ≢ 0xC }
@@ -126,7 +128,7 @@ impl DirectVoice {
         ensures group { result.group ≡ group }
         ensures raised { RaisesTo (voice_in bytes.now) (direct_voice result) }
     {
-        // shows the prover that the group is below 16
+        // This shows the prover that the group is below 16.
         group.get();
         DirectVoice {
             group,
@@ -134,7 +136,8 @@ impl DirectVoice {
         }
     }
 
-    /// The words that encode its packet (M2-104-UM, MIDI 2.0 channel voice messages).
+    /// Returns the words that encode the packet of the message (M2-104-UM, MIDI 2.0 channel voice
+    /// messages).
     #[inline(always)]
     pub fn pair(&self) -> [u32; 2]
         requires { IsRaisedDirect self.now }
@@ -143,7 +146,7 @@ impl DirectVoice {
         DirectWords::new(&self.message()).pair()
     }
 
-    /// The message to which it is raised.
+    /// Returns the message into which it is translated.
     #[inline(always)]
     pub(crate) fn message(&self) -> DirectMessage
         ensures { result ≡ self.now }
@@ -152,7 +155,7 @@ impl DirectVoice {
     }
 }
 
-/// The message to which a voice message is raised that is raised alone, in a group.
+/// Returns the message into which a voice message, one that is translated alone, is translated in a group.
 #[inline(always)]
 pub fn raise_direct(group: U4, bytes: &VoiceBytes) -> DirectMessage
     requires { bytes.now.status / 16 ≢ 0xC }
@@ -160,12 +163,12 @@ pub fn raise_direct(group: U4, bytes: &VoiceBytes) -> DirectMessage
     ensures group { result.group ≡ group }
     ensures raised { RaisesTo (voice_in bytes.now) (direct_voice result) }
 {
-    // shows the prover that the group is below 16
+    // This shows the prover that the group is below 16.
     group.get();
     fields(group, bytes)
 }
 
-/// A control change, in a group.
+/// Returns a control change in a group.
 #[tactic(auto, using(crate::proofs::DirectLaws::bare_control, crate::proofs::DirectLaws::control_is))]
 #[inline(always)]
 pub fn control_change(group: U4, channel: U4, index: U7, value: u32) -> DirectMessage
@@ -173,7 +176,7 @@ pub fn control_change(group: U4, channel: U4, index: U7, value: u32) -> DirectMe
     ensures group { result.group ≡ group }
     ensures message { direct_voice result ≡ voice2.Control channel index value }
 {
-    // these show the prover that the fields are in range
+    // These calls show the prover that the fields are in range.
     group.get();
     index.get();
     DirectMessage {

@@ -1,4 +1,4 @@
-// Direct messages, as the words of their packets.
+// Direct messages, stored as the words of their packets.
 ghost use Rattle.std.specs.Prelude.{◌≡◌};
 ghost use Rattle.ump_grammar.specs.WordFields.{field};
 ghost use Rattle.ump_grammar.specs.Reading.{Encodes};
@@ -11,9 +11,9 @@ use std::marker::Model;
 use ump_grammar::fields::{byte, nibble};
 use voice_messages::{U4, U7, Voice2};
 
-/// A direct message without an attribute, as the two words of its packet (M2-104-UM, MIDI 2.0 channel voice
-/// messages). Most messages of a stream are raised to such words, which are written without asking for
-/// their kind. A contract sees the message.
+/// A direct message without an attribute, stored as the two words of its packet (M2-104-UM, MIDI 2.0
+/// channel voice messages). Most messages of a stream are translated into such words, which can be written
+/// without a test of their kind. In contracts its value is the message.
 #[derive(Debug, Drop)]
 pub struct DirectWords {
     first: u32,
@@ -34,7 +34,7 @@ impl Model for DirectWords {
         × IsRaisedDirect (message_in words.first words.value) };
 }
 
-// The message, by the opcode in its status byte.
+// Returns the message, by the opcode in its status byte.
 fn voice_of(message: &DirectMessage) -> Voice2
     requires { IsDirectMessage message.now }
     ensures { result ≡ direct_voice message.now }
@@ -79,7 +79,7 @@ fn voice_of(message: &DirectMessage) -> Voice2
 }
 
 impl DirectWords {
-    /// The words of a message.
+    /// Creates the words of a message.
     #[tactic(auto, using(crate::proofs::WordLaws::type_in, crate::proofs::WordLaws::same_in, crate::proofs::WordLaws::raised_direct_in))]
     #[inline(always)]
     pub(crate) fn new(message: &DirectMessage) -> DirectWords
@@ -94,7 +94,7 @@ impl DirectWords {
         }
     }
 
-    /// The group.
+    /// Returns the group.
     #[inline(always)]
     pub fn group(&self) -> U4
         ensures { result ≡ self.now.group }
@@ -102,7 +102,7 @@ impl DirectWords {
         nibble(self.first, 24)
     }
 
-    /// The message, with all its fields.
+    /// Returns the message, with all its fields.
     #[inline(always)]
     pub(crate) fn fields(&self) -> DirectMessage
         ensures message { result ≡ self.now }
@@ -117,7 +117,7 @@ impl DirectWords {
         }
     }
 
-    /// The message.
+    /// Returns the message.
     #[inline(always)]
     pub fn message(&self) -> Voice2
         ensures { result ≡ direct_voice self.now }
@@ -125,7 +125,8 @@ impl DirectWords {
         voice_of(&self.fields())
     }
 
-    /// The words that encode its packet (M2-104-UM, MIDI 2.0 channel voice messages).
+    /// Returns the words that encode the packet of the message (M2-104-UM, MIDI 2.0 channel voice
+    /// messages).
     #[inline(always)]
     pub fn pair(&self) -> [u32; 2]
         ensures { Encodes (packet_of self.now) result }

@@ -1,4 +1,8 @@
-//! Turns the bytes of a MIDI 1.0 stream into packets of the Universal MIDI Packet format, in one group.
+//! Translates the bytes of a MIDI 1.0 stream up to packets of the Universal MIDI Packet format, in one
+//! group.
+//!
+//! Start with [`Up`]: `new` allocates, and `byte` translates one byte and returns a [`Raised`], which has
+//! the packet or the payload, and the lines. [`RaisedPacket`] is a packet, as it is written.
 #![tactic(auto)]
 
 mod direct_message;

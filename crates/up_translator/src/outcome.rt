@@ -1,4 +1,5 @@
-// The outcome of a voice message, by the banks and parameters that control changes have set before it.
+// The outcome of a voice message, which depends on the banks and parameters that control changes have set
+// before it.
 ghost use Rattle.std.specs.Prelude.{◌≡◌, Some, false};
 ghost use Rattle.midi1_bytes.specs.Messages.{voice};
 ghost use Rattle.voice_messages.specs.declared.voice1.Voice1.TheVariants as voice1;
@@ -26,9 +27,9 @@ use param_collector::laws::other_messages_change_nothing_kept;
 use param_collector::{Collected, Collector};
 use voice_messages::{U4, U7, Voice2};
 
-/// A voice message that isn't raised alone: its outcome depends on the banks and parameters that are
-/// selected, or it selects one (MIDI 1.0 Detailed Specification, bank select, registered and non-registered
-/// parameter numbers).
+/// A voice message that isn't translated alone: its outcome depends on the selected bank and parameter, or
+/// it selects one (MIDI 1.0 Detailed Specification, bank select, registered and non-registered parameter
+/// numbers).
 #[derive(Clone, Copy)]
 pub enum SelectingMessage {
     /// A control change that isn't direct.
@@ -43,7 +44,8 @@ impl SelectingMessage {
     ghost use Rattle.up_translator.specs.Direct.{goes_direct};
     ghost use Rattle.up_translator.specs.Outcome.{selecting_in};
 
-    /// The message with these bytes. The status byte decides, since all other kinds are raised alone.
+    /// Returns the message with these bytes. The status byte decides, since all other kinds are translated
+    /// alone.
     #[inline(always)]
     pub fn of(bytes: &VoiceBytes) -> SelectingMessage
         requires { (paired : Bool) × (goes_direct (Some paired) (voice_in bytes.now) ≡ false) }
@@ -69,19 +71,19 @@ impl SelectingMessage {
 /// The outcome of a voice message.
 #[derive(Debug, Drop)]
 pub enum Outcome {
-    /// Nothing now: what it selects is kept for the messages that use it.
+    /// Nothing now: the selection is stored for the messages that use it.
     Nothing,
-    /// This control change of MIDI 2.0.
+    /// This MIDI 2.0 control change.
     Control { channel: U4, index: U7, value: u32 },
-    /// This message of MIDI 2.0, which isn't a direct one: a parameter that is set, or a program change.
+    /// This MIDI 2.0 message, which isn't a direct one: a parameter that is set, or a program change.
     Message(Voice2),
-    /// Nothing: it is a data entry without a selected parameter.
+    /// Nothing, since the message is a data entry without a selected parameter.
     Ignored,
-    /// It is refused.
+    /// The message is refused.
     Refused(BadStep),
 }
 
-// The outcome of a control change that the collector has answered.
+// Returns the outcome of a control change, from the collector's result.
 #[inline(always)]
 fn outcome_of(collected: Collected, channel: U4, index: U7, value: U7) -> Outcome
     ensures outcome { result ≡ outcome_by collected channel index value }
@@ -108,7 +110,7 @@ fn outcome_of(collected: Collected, channel: U4, index: U7, value: U7) -> Outcom
     }
 }
 
-// The outcome of a control change.
+// Returns the outcome of a control change.
 #[inline(always)]
 fn raise_control_change(collector: &mut Collector, channel: U4, index: U7, value: U7) -> Outcome
     ensures refused { refusal_in result ≡ bad_control index }
@@ -125,8 +127,8 @@ fn raise_control_change(collector: &mut Collector, channel: U4, index: U7, value
     outcome_of(collected, channel, index, value)
 }
 
-/// The outcome of a message that isn't raised alone (M2-104-UM, translation from MIDI 1.0). A control change
-/// is collected; a program change takes the bank that is selected.
+/// Returns the outcome of a message that isn't translated alone (M2-104-UM, translation from MIDI 1.0). A
+/// control change goes to the collector, and a program change takes the selected bank.
 #[inline(always)]
 pub fn raise_selecting(collector: &mut Collector, message: SelectingMessage) -> Outcome
     ensures refused { refusal_in result ≡ bad_voice1 (selecting_in message) }

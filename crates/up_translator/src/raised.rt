@@ -8,10 +8,10 @@ use small_types::U4;
 pub struct Raised<'a> {
     /// The packet of the voice or system message that the byte completes.
     pub packet: Option<&'a RaisedPacket>,
-    /// The bytes between F0 and F7 of the exclusive that the byte ends. Its packets are those of
-    /// `sysex_groups::part`. If there is a payload, there is no packet.
+    /// The bytes between F0 and F7 of the exclusive that the byte ends. `sysex_groups::part` returns its
+    /// packets. If there is a payload, there is no packet.
     pub payload: Option<&'a [u8]>,
-    /// Its lines of the listing, in the group of the packets.
+    /// The lines of the byte in the listing, in the group of the packets.
     pub lines: ByteLines,
 }
 
@@ -30,7 +30,7 @@ impl<'a> Raised<'a> {
       IsApart,
     };
 
-    /// Lines alone, at most two, in order.
+    /// Creates an outcome with lines only, at most two, in order.
     pub(crate) fn only_listed(
         group: U4,
         first: Option<ByteLine>,
@@ -53,7 +53,7 @@ impl<'a> Raised<'a> {
         }
     }
 
-    /// A packet, and a line if there is one.
+    /// Creates an outcome with a packet, and with a line if there is one.
     pub(crate) fn of_packet(
         group: U4,
         packet: &'a RaisedPacket,
@@ -74,7 +74,7 @@ impl<'a> Raised<'a> {
         }
     }
 
-    /// The payload of an exclusive that is given from F0 to F7.
+    /// Creates an outcome with the payload of an exclusive. `bytes` is the exclusive from F0 to F7.
     pub(crate) fn of_exclusive(group: U4, bytes: &'a [u8]) -> Raised<'a>
         requires { bytes.now ≡ framed (payload_of bytes.now) }
         ensures group { group_in result ≡ group }
@@ -93,7 +93,7 @@ impl<'a> Raised<'a> {
         }
     }
 
-    /// The group of the packets and of the lines.
+    /// Returns the group of the packets and of the lines.
     pub fn group(&self) -> U4
         ensures { result ≡ group_in self.now }
     {

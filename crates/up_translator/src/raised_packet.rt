@@ -15,22 +15,22 @@ use std::marker::Model;
 use ump_grammar::{Packet, encode};
 use voice_messages::{Form, System, U4, Voice2};
 
-// How a packet is held: each kind to which a message is raised.
+// The stored form of a packet, by the kind of message.
 #[derive(Debug, Drop)]
 enum PacketForm {
-    // a direct message, and its group
+    // A direct message, with its group.
     Value(DirectWords),
-    // any other message of MIDI 2.0
+    // Any other MIDI 2.0 message.
     Voice2 {
         group: U4,
         message: Voice2,
     },
-    // a system message
+    // A system message.
     System {
         group: U4,
         message: System,
     },
-    // up to six bytes of an exclusive
+    // Up to six bytes of an exclusive.
     Exclusive {
         group: U4,
         form: Form,
@@ -38,7 +38,7 @@ enum PacketForm {
     },
 }
 
-/// The packet to which a message is raised. A contract sees the packet.
+/// The packet into which a message is translated. In contracts its value is the packet.
 #[derive(Debug, Drop)]
 pub struct RaisedPacket {
     form: PacketForm,
@@ -56,7 +56,7 @@ impl Model for RaisedPacket {
 }
 
 impl RaisedPacket {
-    /// A message of MIDI 2.0 that isn't a direct one, in a group.
+    /// Creates the packet of a MIDI 2.0 message that isn't a direct one, in a group.
     #[inline(always)]
     pub(crate) fn of_voice2(group: U4, message: Voice2) -> RaisedPacket
         requires { is_direct_voice message ≡ false }
@@ -67,7 +67,7 @@ impl RaisedPacket {
         }
     }
 
-    /// A system message in a group.
+    /// Creates the packet of a system message in a group.
     #[inline(always)]
     pub(crate) fn of_system(group: U4, message: System) -> RaisedPacket
         ensures { result ≡ packet.System group message }
@@ -77,7 +77,7 @@ impl RaisedPacket {
         }
     }
 
-    /// A part of an exclusive in a group, with up to six of its bytes.
+    /// Creates the packet of a part of an exclusive in a group, with up to six of its bytes.
     #[inline(always)]
     pub fn of_exclusive(group: U4, form: Form, bytes: ShortList<u8, 6>) -> RaisedPacket
         ensures { result ≡ packet.Exclusive group form bytes }
@@ -87,7 +87,7 @@ impl RaisedPacket {
         }
     }
 
-    /// A direct message, in its group.
+    /// Creates the packet of a direct message, in its group.
     #[inline(always)]
     pub fn of_value(message: &DirectMessage) -> RaisedPacket
         requires { IsRaisedDirect message.now }
@@ -98,7 +98,7 @@ impl RaisedPacket {
         }
     }
 
-    /// The packet.
+    /// Returns the packet.
     #[inline(always)]
     pub fn packet(&self) -> Packet
         ensures { result ≡ self.now }
@@ -124,7 +124,7 @@ impl RaisedPacket {
         }
     }
 
-    /// The message, if it is a direct one; `None` exactly for all other packets.
+    /// Returns the message if it is a direct one, or `None` exactly for all other packets.
     #[inline(always)]
     pub fn direct_message(&self) -> Option<DirectMessage>
         ensures { MatchOption result (has_direct_kind self.now ≡ false)
@@ -136,8 +136,8 @@ impl RaisedPacket {
         }
     }
 
-    /// The two words that encode a direct message (M2-104-UM, MIDI 2.0 channel voice messages). `None`
-    /// exactly for all other packets, whose words `words` returns.
+    /// Returns the two words that encode a direct message (M2-104-UM, MIDI 2.0 channel voice messages), or
+    /// `None` exactly for all other packets. `words` returns the words of those.
     #[inline(always)]
     pub fn pair(&self) -> Option<[u32; 2]>
         ensures { MatchOption result (has_direct_kind self.now ≡ false)
@@ -149,8 +149,8 @@ impl RaisedPacket {
         }
     }
 
-    /// The words that encode it (M2-104-UM), with zeros in the places that its row doesn't name. The packet
-    /// is one that some words decode to.
+    /// Returns the words that encode the packet (M2-104-UM), with zeros in the places that its row doesn't
+    /// name. The packet must be one that some words decode to.
     #[inline(always)]
     pub fn words(&self) -> Words
         requires { IsPacket self.now }

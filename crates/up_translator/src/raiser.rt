@@ -1,4 +1,4 @@
-// Messages of a stream as packets of its group.
+// Translates the messages of a stream to packets of its group.
 ghost use Rattle.std.specs.Prelude.{◌≡◌, [], ◌∷◌, map, Some, None, IfSome, MatchOption, false};
 ghost use Rattle.std.specs.Option.{option_to_list};
 ghost use Rattle.midi1_bytes.specs.Messages.{voice};
@@ -23,11 +23,11 @@ use param_collector::laws::{control_changes_are_kept, other_messages_change_noth
 use std::marker::Model;
 use voice_messages::{System, U4, U7};
 
-// The fields of a system message and of its group fit their places.
+// Shows that the fields of a system message and of its group fit their places.
 fn system_fits(group: U4, message: &System)
     ensures { IsPacket (packet.System group message.now) }
 {
-    // each `get` shows the prover that its number is in range
+    // Each `get` shows the prover that its number is in range.
     match *message {
         System::Quarter(value) | System::Song(value) => {
             value.get();
@@ -39,7 +39,7 @@ fn system_fits(group: U4, message: &System)
     }
 }
 
-// A control change.
+// Returns the packet of a control change.
 #[inline(always)]
 fn control_packet(group: U4, channel: U4, index: U7, value: u32) -> RaisedPacket
     ensures { result ≡ packet.Voice2 group (voice2.Control channel index value) }
@@ -47,8 +47,8 @@ fn control_packet(group: U4, channel: U4, index: U7, value: u32) -> RaisedPacket
     RaisedPacket::of_value(&control_change(group, channel, index, value))
 }
 
-/// Raises messages to packets of one group. It keeps the packet that it lends. A contract sees the group and
-/// what control changes have set.
+/// Translates messages to packets of one group. It stores the packet that it lends. In contracts its value
+/// is the group and the values that control changes have set.
 #[derive(Drop)]
 pub(crate) struct Raiser {
     group: U4,
@@ -82,7 +82,7 @@ impl Raiser {
     ghost use Rattle.up_translator.specs.Raised.{packet_in, payload_in, packets_in, group_in, IsApart};
     ghost use Rattle.up_translator.specs.Step.{RaisesStep};
 
-    /// A raiser into a group, with paired controllers or without, as the collector has them.
+    /// Creates a translator into a group, with paired controllers or without, as in the collector.
     pub(crate) fn new(group: U4, collector: Collector, paired: bool) -> Raiser
         requires { collector.paired ≡ paired }
         ensures { result ≡ record { group = group; holding = collector } }
@@ -95,7 +95,7 @@ impl Raiser {
         }
     }
 
-    /// Forgets what control changes have set.
+    /// Forgets everything that control changes have set.
     pub(crate) fn reset(&mut self)
         ensures fresh { self.new ≡ record {
           group = self.old.group;
@@ -130,7 +130,8 @@ impl Raiser {
         Raised::of_packet(self.group, &self.packet, line)
     }
 
-    /// A system message, with a line for what its byte cuts off, if it cuts anything off.
+    /// Translates a system message. `line` is the line of the message that its byte cuts off, if there is
+    /// one.
     #[inline(always)]
     pub(crate) fn system(&mut self, message: System, line: Option<ByteLine>) -> Raised<'_>
         ensures group { group_in result ≡ self.old.group }
@@ -148,7 +149,7 @@ impl Raiser {
         self.give(RaisedPacket::of_system(group, message), line)
     }
 
-    // A voice message that isn't raised alone.
+    // Translates a voice message that isn't translated alone.
     #[inline(always)]
     fn selecting(&mut self, message: SelectingMessage, offset: u64) -> Result<Raised<'_>, BadStep>
         ensures answer { RaisesStep self.old.holding self.old.group offset
@@ -170,7 +171,7 @@ impl Raiser {
             }
             Outcome::Message(message) => {
                 let group = self.group;
-                // shows the prover that the group is below 16
+                // This shows the prover that the group is below 16.
                 group.get();
                 Ok(self.give(RaisedPacket::of_voice2(group, message), None))
             }
@@ -179,7 +180,7 @@ impl Raiser {
         }
     }
 
-    /// A voice message, if it is raised alone; `None` exactly when it isn't.
+    /// Returns a voice message if it is translated alone, or `None` exactly if it isn't.
     #[inline(always)]
     pub(crate) fn direct_voice(&self, bytes: &VoiceBytes) -> Option<DirectVoice>
         ensures { MatchOption result
@@ -193,7 +194,8 @@ impl Raiser {
         }
     }
 
-    /// The message to which a voice message is raised, if it is raised alone; `None` exactly if it isn't.
+    /// Returns the message into which a voice message is translated, if it is translated alone, or `None`
+    /// exactly if it isn't.
     #[inline(always)]
     pub(crate) fn direct_message(&self, bytes: &VoiceBytes) -> Option<DirectMessage>
         ensures { MatchOption result
@@ -207,7 +209,7 @@ impl Raiser {
         }
     }
 
-    /// A voice message that the byte at this offset completes.
+    /// Translates a voice message that the byte at this offset completes.
     #[inline(always)]
     pub(crate) fn voice(&mut self, bytes: &VoiceBytes, offset: u64) -> Result<Raised<'_>, BadStep>
         ensures answer { RaisesStep self.old.holding self.old.group offset

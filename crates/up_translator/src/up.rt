@@ -1,4 +1,4 @@
-// The translator up.
+// The translator from MIDI 1.0 bytes to packets.
 ghost use Rattle.std.specs.Prelude.{◌≡◌, ◌≢◌, ◌≤◌, ℕ, [], length, map, take, IfOk, MatchOption, Option};
 ghost use Rattle.std.specs.Option.{option_map, option_to_list};
 ghost use Rattle.midi1_bytes.specs.Answers.{step_view, LendsData, LendsFramed};
@@ -22,8 +22,8 @@ use std::alloc::Global;
 use std::marker::Model;
 use voice_messages::END_OF_EXCLUSIVE;
 
-// The outcome of F7: the exclusive that it ends; or the line of what it cuts off and that of F7 itself,
-// which is then stray.
+// Returns the outcome of F7: the exclusive that F7 ends, or the line of the message that it cuts off and
+// the line of F7 itself, which then belongs to no message.
 #[inline(always)]
 fn raised_end<'a>(group: U4, step: Step<'a>, offset: u64) -> Raised<'a>
     requires ended { (begun : Option Begun) × (step_view step ≡ ended_by begun) }
@@ -36,24 +36,24 @@ fn raised_end<'a>(group: U4, step: Step<'a>, offset: u64) -> Raised<'a>
         Step::Cut { start, what, .. } => {
             Raised::only_listed(group, Some(cut_off(start, what)), Some(stray(offset)))
         }
-        // It neither ends an exclusive nor cuts anything off, so it is stray.
+        // F7 neither ends an exclusive nor cuts anything off, so it belongs to no message.
         _ => Raised::only_listed(group, Some(stray(offset)), None),
     }
 }
 
-/// The answer of `Up::direct` to one more byte.
+/// The result of `Up::direct` for one more byte.
 #[derive(Debug, Drop)]
 pub enum DirectStep {
-    /// It begins or continues a message or an exclusive, and raises nothing.
+    /// The byte begins or continues a message or an exclusive, and completes no packet.
     Held,
-    /// It completes a message that is raised to this one.
+    /// The byte completes a message that is translated into this one.
     Message(DirectVoice),
-    /// Any other byte. It isn't taken.
+    /// Any other byte. It hasn't been taken.
     Other,
 }
 
-/// Translates the bytes of one MIDI 1.0 stream to packets of one group. A contract sees the group, the open
-/// message or exclusive, and the state that control changes have set.
+/// Translates the bytes of one MIDI 1.0 stream to packets of one group. In contracts its value is the
+/// group, the open message or exclusive, and the state that control changes have set.
 #[derive(Drop)]
 pub struct Up {
     parser: Parser,
@@ -82,10 +82,10 @@ impl Up {
     ghost use Rattle.up_translator.specs.Recording.{HoldsUp};
     ghost use Rattle.up_translator.specs.Step.{Raises};
 
-    /// A translator into a group, for a stream that has had no byte yet. Takes all memory that it ever
-    /// needs: for an exclusive of `room` bytes between F0 and F7, 6 to 1,048,576, and a little more than
-    /// 512 KiB for what control changes set. Controllers are paired or aren't (own rule). `NoMemory` if
-    /// there isn't that much.
+    /// Creates a translator into a group, for a stream before its first byte. Controllers are paired or not
+    /// (own rule). Allocates all the memory that the translator will ever need: for an exclusive with
+    /// `room` bytes between F0 and F7, 6 to 1,048,576, and a little more than 512 KiB for the values that
+    /// control changes set. Returns `NoMemory` if the memory can't be allocated.
     pub fn new(alloc: Global, group: U4, room: u32, paired: bool) -> Result<Up, NoMemory>
         requires least { 6 ≤ room }
         requires most { room ≤ 1048576 }
@@ -101,9 +101,9 @@ impl Up {
         })
     }
 
-    /// Drops the open message or exclusive, and what control changes have set: the translator equals a new
-    /// one of the same group and limit, with controllers paired or not as before (own rule). Takes no
-    /// memory.
+    /// Drops the open message or exclusive and everything that control changes have set. The translator
+    /// then equals a new one with the same group and limit, and with controllers paired or not as before
+    /// (own rule). Allocates no memory.
     pub fn reset(&mut self)
         ensures fresh { self.new ≡ record {
           group = self.old.group;
@@ -116,7 +116,7 @@ impl Up {
         self.raiser.reset();
     }
 
-    // Takes F7. It ends an exclusive, cuts a message off, or is stray.
+    // Takes F7, which ends an exclusive, cuts off a message, or belongs to no message.
     #[inline(always)]
     fn end_exclusive(&mut self, offset: u64) -> Result<Raised<'_>, BadStep>
         ensures answer { Raises self.old offset 247 result }
@@ -128,7 +128,7 @@ impl Up {
         Ok(raised_end(group, self.parser.byte(END_OF_EXCLUSIVE, offset), offset))
     }
 
-    // Takes any other byte, which ends no exclusive.
+    // Takes any other byte. It ends no exclusive.
     #[inline(always)]
     fn take(&mut self, byte: u8, offset: u64) -> Result<Raised<'_>, BadStep>
         requires { byte ≢ 247 }
@@ -182,20 +182,21 @@ impl Up {
         }
     }
 
-    /// Takes one more byte, and returns its packets (M2-104-UM, translation from MIDI 1.0; M2-115-U) and
-    /// its lines of the listing (own rules). The offset is the number of bytes before it.
+    /// Translates one more byte, and returns its packets (M2-104-UM, translation from MIDI 1.0; M2-115-U)
+    /// and its lines of the listing (own rules). The offset is the number of bytes before it.
     ///
-    /// `DataIncrement` and `DataDecrement` are returned exactly at the byte that completes a control change
-    /// 96 or 97; what control changes have set then stays as it was. `ExclusiveTooLong` is returned exactly
-    /// if the byte makes an exclusive longer than the limit; the exclusive is dropped (own rules).
+    /// * `DataIncrement` and `DataDecrement` are returned exactly at the byte that completes a control
+    ///   change 96 or 97. The values that control changes have set are then unchanged.
+    /// * `ExclusiveTooLong` is returned exactly if the byte makes an exclusive longer than the limit. The
+    ///   exclusive is dropped (own rules).
     #[inline(always)]
     pub fn byte(&mut self, byte: u8, offset: u64) -> Result<Raised<'_>, BadStep>
         ensures answer { Raises self.old offset byte result }
         ensures kept { KeepsAfter self.old.holding (step_in self.old offset byte) }
         ensures* after { sem 𝓛 (KeepsUp self.entry (up_after self.old offset byte)) }
     {
-        // Most bytes are data bytes. The parser asks first whether a
-        // byte is one, so that this question costs nothing.
+        // Most bytes are data bytes. The parser first tests whether a byte is a data byte, so this test
+        // costs nothing.
         if byte >= 0x80 {
             if byte == END_OF_EXCLUSIVE {
                 return self.end_exclusive(offset);
@@ -204,12 +205,15 @@ impl Up {
         self.take(byte, offset)
     }
 
-    /// Takes the voice message at the front of these bytes, if it neither depends on what control changes
-    /// have set nor changes it. Returns the message to which it is raised (M2-104-UM, translation from MIDI
-    /// 1.0) and the number of its bytes here, 1 to 3. This equals `byte` on each of them: the last one
-    /// raises the packet of this message, the others raise nothing, and none has a line. `None` exactly if
-    /// `Parser::front` finds no message here, or one that depends on what control changes have set or
-    /// changes it (own rule). Nothing changes then: take the bytes one by one.
+    /// Translates the voice message at the front of these bytes, if it neither uses nor changes the values
+    /// that control changes have set. Returns the message into which it is translated (M2-104-UM,
+    /// translation from MIDI 1.0) and the number of its bytes here, 1 to 3. The call has the same effect as
+    /// `byte` on each of these bytes: the last one completes the packet of this message, the others
+    /// complete no packet, and none has a line.
+    ///
+    /// Returns `None` exactly if `Parser::front` finds no message here, or if the message uses or changes
+    /// the values that control changes have set (own rule). Then nothing changes: translate the bytes one
+    /// at a time.
     #[inline(always)]
     pub fn front(&mut self, bytes: &[u8]) -> Option<(DirectMessage, usize)>
         ensures { MatchOption result
@@ -224,8 +228,8 @@ impl Up {
     }
 
     /// Takes the data bytes at the front of these bytes into the open exclusive, up to its limit (own
-    /// rule), and returns their number; 0 if no exclusive is open. This equals `byte` on each of them: none
-    /// raises anything or has a line. Takes no memory.
+    /// rule), and returns how many it took. Returns 0 if no exclusive is open. The call has the same effect
+    /// as `byte` on each of them: none completes a packet or has a line. Allocates no memory.
     #[inline(always)]
     pub fn take_data(&mut self, bytes: &[u8]) -> usize
         ensures count { result ≡ data_taken self.old.parsing bytes.now }
@@ -235,11 +239,14 @@ impl Up {
         self.parser.take_data(bytes)
     }
 
-    /// Takes one more byte, if it only continues or begins something, or completes a channel voice message
-    /// that neither depends on what control changes have set nor changes it (M2-104-UM, translation from
-    /// MIDI 1.0). This equals `byte`: the first kind raises nothing, the second the packet of this message,
-    /// and neither has a line. `Other` exactly for all other bytes; nothing changes then, and `byte` has
-    /// their answer. The offset is the number of bytes before it. Takes no memory.
+    /// Translates one more byte, if it only continues or begins a message, or if it completes a channel
+    /// voice message that neither uses nor changes the values that control changes have set (M2-104-UM,
+    /// translation from MIDI 1.0). The call then has the same effect as `byte`: a byte of the first kind
+    /// completes no packet, one of the second kind completes the packet of this message, and neither has a
+    /// line.
+    ///
+    /// Returns `Other` exactly for all other bytes. Then nothing changes: call `byte`. The offset is the
+    /// number of bytes before this one. Allocates no memory.
     #[inline(always)]
     pub fn direct(&mut self, byte: u8, offset: u64) -> DirectStep
         ensures { IsDirect result self.old offset byte self.new }
@@ -258,8 +265,8 @@ impl Up {
         }
     }
 
-    /// The line of the message or exclusive that is open at the end of the stream, at the offset of its
-    /// start (own rule); `None` exactly if nothing is open.
+    /// Returns the line of the message or exclusive that is open at the end of the stream, at the offset of
+    /// its start (own rule), or `None` exactly if nothing is open.
     pub fn end(&self) -> Option<Listed>
         ensures { option_to_list result ≡ map (line_up self.now.group) (kinds_at_end
             (option_map (λ begun. (begun.start, begun.kind)) (open_of self.now.parsing))) }

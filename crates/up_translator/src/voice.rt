@@ -1,4 +1,4 @@
-// Data entries and program changes as messages of MIDI 2.0 (M2-104-UM, translation from MIDI 1.0; M2-115-U).
+// Data entries and program changes as MIDI 2.0 messages (M2-104-UM, translation from MIDI 1.0; M2-115-U).
 ghost use Rattle.std.specs.Prelude.{◌≡◌, ◌<◌, ◌≤◌, ◌*◌, ◌^◌};
 ghost use Rattle.bit_scaling.specs.Scaling.{up};
 ghost use Rattle.voice_messages.specs.Ranges.{IsVoice2};
@@ -7,7 +7,7 @@ ghost use Rattle.voice_messages.specs.declared.voice2.Voice2.TheVariants as voic
 use bit_scaling::up14;
 use voice_messages::{Bank, Param, U4, U7, U14, Voice2};
 
-/// A data entry, by the parameter that it sets and the value that it gives it.
+/// Returns the message for a data entry, with the parameter that it sets and the new value.
 #[inline(always)]
 pub fn raise_data_entry(channel: U4, param: Param, value: U14) -> Voice2
     ensures message { result ≡ voice2.Set channel param (up value 14 32) }
@@ -20,7 +20,7 @@ pub fn raise_data_entry(channel: U4, param: Param, value: U14) -> Voice2
     }
 }
 
-/// A program change, with the bank that it takes.
+/// Returns the message for a program change, with the bank that was selected for it.
 #[inline(always)]
 pub fn raise_program(channel: U4, program: U7, bank: Option<Bank>) -> Voice2
     ensures message { result ≡ voice2.Program channel program bank }

@@ -1,4 +1,4 @@
-// Events, and their reader.
+// The event packets, and the reader that returns them.
 ghost use Rattle.std.specs.Prelude.{◌≡◌, ◌<◌, ◌≤◌, ◌^◌, false, length, IfSome};
 ghost use Rattle.item_reader.specs.Reading.{Answers, ReadCause, answer_of, cursor};
 ghost use Rattle.usb_midi1.specs.Codes.{carried_count as count_by, is_reserved as is_reserved_code};
@@ -12,15 +12,15 @@ use std::marker::Model;
 /// An event packet (USB Device Class Definition for MIDI Devices 1.0, event packets).
 #[derive(Clone, Copy, Debug, PartialEq, Eq)]
 pub struct Event {
-    /// The number of its cable, 0 to 15.
+    /// The cable number, 0 to 15.
     pub cable: U4,
-    /// What it carries: the code index number, 0 to 15.
+    /// The code index number, 0 to 15. It says what the event carries.
     pub code: U4,
-    /// Three places, of which the code says how many are used.
+    /// Three bytes. The code says how many of them are used.
     pub bytes: [u8; 3],
 }
 
-/// Each four bytes are an event.
+/// Describes the cutting of an input into events: each four bytes are one event.
 #[derive(Clone, Copy, Debug, PartialEq, Eq)]
 pub struct EachEvent;
 
@@ -49,7 +49,7 @@ impl Cut for EachEvent {
     ghost lengths = { λ _. event_length };
 }
 
-/// Gives out the events of a source one by one. To a contract it is its `Reading`.
+/// Returns the events of a source one by one. In contracts its value is the `Reading`.
 #[derive(Drop)]
 pub struct EventReader {
     events: ItemReader<EachEvent>,
@@ -65,7 +65,7 @@ impl Model for EventReader {
 }
 
 impl EventReader {
-    /// Makes a reader that takes at most `limit` bytes, which is at most 2^62 (own rule).
+    /// Creates a reader that reads at most `limit` bytes. `limit` is at most 2^62 (own rule).
     pub fn new(limit: u64) -> EventReader
         requires { limit ≤ 2 ^ 62 }
         ensures { result ≡ new_events limit }
@@ -76,15 +76,15 @@ impl EventReader {
     }
 
     /// Reads the next event (USB Device Class Definition for MIDI Devices 1.0, event packets). Returns the
-    /// event and its offset, the number of bytes before it, or `None` when the source ends with the last
-    /// event.
+    /// event and its offset, which is the number of bytes before it, or `None` when the source ends after a
+    /// whole event.
     ///
-    /// `Truncated` is returned when the source ends within the limit, one to three bytes after the last
-    /// event, with the offset of the first of them. `TooLong` is returned when the source gave more bytes
-    /// than the limit, and fewer than four of them are left within it (own rule). `Read` is returned only
-    /// when the source's count of faults rose; no byte is lost, and a later call goes on from there. Any
-    /// other answer without an event is returned again by every later call. The source is asked only if no
-    /// whole event is held.
+    /// Returns `Truncated` if the source ends within the limit, one to three bytes after the last event; the
+    /// offset is that of the first of these bytes. Returns `TooLong` if the source has more bytes than the
+    /// limit, and fewer than four of them are left within the limit (own rule). Returns `Read` only if the
+    /// source's count of faults rose. In that case no byte is lost, and a later call continues from there.
+    /// After any other result without an event, every later call returns the same result. The call reads from
+    /// the source only if the reader holds no whole event.
     #[inline(always)]
     pub fn next<S: Source>(&mut self, src: &mut S) -> Result<Option<(Event, u64)>, ReadStop>
         ensures answer { self.old.end ≡ None → Answers four_bytes event_at
@@ -98,18 +98,18 @@ impl EventReader {
     }
 }
 
-/// Tests whether an event's code is reserved, 0 or 1 (USB Device Class Definition for MIDI Devices 1.0, code
-/// index numbers): such an event carries nothing.
+/// Returns whether an event's code is reserved, 0 or 1 (USB Device Class Definition for MIDI Devices 1.0,
+/// code index numbers). Such an event carries nothing.
 pub fn is_reserved(event: &Event) -> bool
     ensures { result ≡ is_reserved_code event.now.code }
 {
     event.code.get() < 2
 }
 
-// How many bytes an event with each code carries.
+// The number of bytes that an event carries, for each code.
 const CARRIED_COUNTS: [usize; 16] = [0, 0, 2, 3, 3, 1, 2, 3, 3, 3, 3, 3, 2, 2, 3, 1];
 
-// How many bytes an event with this code carries, at most three.
+// Returns how many bytes an event with this code carries, at most three.
 #[inline(always)]
 fn carried_count(code: U4) -> usize
     ensures count { result ≡ count_by code }
@@ -120,8 +120,9 @@ fn carried_count(code: U4) -> usize
 }
 
 /// Returns the bytes that an event carries (USB Device Class Definition for MIDI Devices 1.0, code index
-/// numbers). The code says how many of its three bytes these are: none for the reserved codes 0 and 1; two
-/// for 2, 6, C and D; one for 5 and F; three for any other.
+/// numbers). The code says how many of the three bytes these are: none for the reserved codes 0 and 1; two
+/// for 2, 6, C and D; one for 5 and F; three for any other. For example, an event with code 9 (Note On)
+/// carries all three, and an event with code C (Program Change) carries the first two.
 pub fn carried(event: &Event) -> ShortList<u8, 3>
     ensures bytes { result ≡ carried_by event.now }
     ensures some { is_reserved_code event.now.code ≡ false → 0 < length result }

@@ -1,4 +1,4 @@
-// What holds of all streams, of which the bytes are listed newest first.
+// Laws that hold for all streams. The definitions list the bytes of a stream newest first.
 ghost use Rattle.item_reader.specs.CutLaws.{CutsStreams};
 ghost use Rattle.usb_midi1.specs.Events.{four_bytes};
 ghost use Rattle.usb_midi1.specs.Laws.{
@@ -16,29 +16,29 @@ use midi1_bytes::laws::{
     written_messages_are_read_again,
 };
 
-/// A packer that takes the bytes of a stream, each with its offset, answers each byte as the definition does,
-/// which looks back over all the bytes before it. One more byte turns the state after some bytes into the
-/// is held after them all. At the end it says what is open there.
+/// A packer that takes the bytes of a stream, each with its offset, returns for each byte what the definition
+/// says, which looks back over all the bytes before it. Its state after some bytes and one more is its state
+/// after all of them. At the end it reports what is open there.
 pub fn packed_bytes_are_the_definition()
     ensures { PackedBytesAreTheDefinition }
 {
     parsed_bytes_are_the_definition();
 }
 
-/// The events of an exclusive are, from each place on, the one that `exclusive_event` cuts there and then
-/// those of the bytes after it; past the last there are none.
+/// From each event of an exclusive on, the events are the one that `exclusive_event` cuts there, followed by
+/// the events of the bytes after it. After the last event there are none.
 pub fn exclusive_events_come_in_order()
     ensures { ExclusiveEventsComeInOrder }
 {}
 
-/// The events that a reader gives out of a stream, unless that has more bytes than the limit, are those of
-/// its bytes, four by four.
+/// The events that a reader returns for a stream are its bytes, four by four, unless the stream has more
+/// bytes than the limit.
 pub fn events_are_those_of_the_bytes()
     ensures { EventsAreThoseOfTheBytes }
 {}
 
-/// All bytes that the events of a stream carry are on its cable. If no exclusive of the stream is longer than
-/// the limit, these bytes complete the messages that the stream completes, in the same order.
+/// All bytes that the events of a stream carry are on the cable of these events. If no exclusive of the
+/// stream is longer than the limit, these bytes complete the same messages as the stream, in the same order.
 pub fn split_events_mean_the_bytes()
     ensures { SplitEventsMeanTheBytes }
 {
@@ -47,7 +47,7 @@ pub fn split_events_mean_the_bytes()
     written_messages_are_read_again();
 }
 
-/// A stream of events is cut in one way, and a front of it begins.
+/// Every stream of events is cut in exactly one way, and a front of a stream is cut as that stream begins.
 pub fn events_are_cut_once()
     ensures { CutsStreams four_bytes }
 {

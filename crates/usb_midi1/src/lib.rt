@@ -1,5 +1,9 @@
-//! USB-MIDI 1.0 event packets: splits events into each cable's bytes, and packs a MIDI 1.0 stream into
-//! events.
+//! Reads and writes USB-MIDI 1.0 event packets: splits events into the bytes of each cable, and packs the
+//! bytes of a MIDI 1.0 stream into events of one cable.
+//!
+//! Start with [`EventReader`], whose `next` returns the [`Event`]s of an input (pass each to [`carried`] for
+//! its bytes), or with [`Packer`]: `new` allocates, `byte` takes one byte, and [`Packed`] has the events and
+//! the lines.
 #![tactic(auto)]
 
 pub mod event;

@@ -3,21 +3,21 @@ use listing_terms::{ByteLine, ByteLines};
 use small_types::U4;
 use thiserror::Error;
 
-/// An exclusive has more bytes between F0 and F7 than the limit (own rule).
+/// An error: an exclusive has more bytes between F0 and F7 than the limit (own rule).
 #[derive(Clone, Copy, Debug, PartialEq, Eq, Error)]
 #[error("an exclusive is longer than the limit")]
 pub struct TooLong;
 
-/// The outcome of a byte.
+/// The outcome of one byte: its events and its lines of the listing.
 #[derive(Clone, Copy, Debug)]
 pub struct Packed<'a> {
-    /// The event of the voice or system message that the byte completes, its cable and code in the first
-    /// byte.
+    /// The event of the voice or system message that the byte completes. Its first byte has the cable and the
+    /// code.
     pub event: Option<[u8; 4]>,
-    /// The exclusive that the byte ends, from its F0 to its F7. Its events are those of `exclusive_event`.
-    /// If it is there, there is no event.
+    /// The exclusive that the byte ends, from its F0 to its F7. `exclusive_event` cuts it into events. If
+    /// there is an exclusive, `event` is `None`.
     pub whole: Option<&'a [u8]>,
-    /// Its lines of the listing, with the cable as their group.
+    /// The byte's lines of the listing, with the cable as their group.
     pub lines: ByteLines,
 }
 
@@ -29,7 +29,7 @@ impl<'a> Packed<'a> {
     ghost use Rattle.usb_midi1.specs.Packed.{cable_in, events_in, whole_in, IsApart};
     ghost use Rattle.usb_midi1.specs.Packing.{exclusive_events};
 
-    /// Lines alone, at most two, in order.
+    /// Creates an outcome with at most two lines, in order, and no event.
     pub(crate) fn only_listed(
         cable: U4,
         first: Option<ByteLine>,
@@ -51,7 +51,7 @@ impl<'a> Packed<'a> {
         }
     }
 
-    /// An event, and a line if there is one.
+    /// Creates an outcome with an event, and a line if there is one.
     pub(crate) fn of_event(cable: U4, event: [u8; 4], first: Option<ByteLine>) -> Packed<'a>
         ensures cable { cable_in result ≡ cable }
         ensures order { IsInOrder result.lines }
@@ -67,7 +67,7 @@ impl<'a> Packed<'a> {
         }
     }
 
-    /// An exclusive from F0 to F7.
+    /// Creates an outcome with an exclusive, from its F0 to its F7, and no line.
     pub(crate) fn of_whole(cable: U4, whole: &'a [u8]) -> Packed<'a>
         ensures cable { cable_in result ≡ cable }
         ensures order { IsInOrder result.lines }
@@ -83,7 +83,7 @@ impl<'a> Packed<'a> {
         }
     }
 
-    /// Returns the cable of its events (own rule).
+    /// Returns the cable of the events (own rule).
     pub fn cable(&self) -> U4
         ensures { result ≡ cable_in self.now }
     {

@@ -1,4 +1,4 @@
-// The packer of a stream into events.
+// The packer, which turns a MIDI 1.0 stream into events.
 ghost use Rattle.std.specs.Prelude.{◌≡◌, ◌≤◌, map, IfOk};
 ghost use Rattle.std.specs.Option.{option_map, option_to_list};
 ghost use Rattle.midi_meaning.specs.StepListing.{kinds_at_end, line_up};
@@ -14,7 +14,7 @@ use small_types::{NoMemory, U4};
 use std::alloc::Global;
 use std::marker::Model;
 
-// The outcome of a byte that cuts off what started at an offset.
+// Creates the outcome of a byte that cuts off a message or exclusive, which started at offset `start`.
 fn cut<'a>(cable: U4, start: u64, what: CutKind, after: AfterCut, offset: u64) -> Packed<'a>
     ensures { IsPacked cable offset (steps.cut start what after) result }
 {
@@ -30,8 +30,8 @@ fn cut<'a>(cable: U4, start: u64, what: CutKind, after: AfterCut, offset: u64) -
     }
 }
 
-/// Packs the bytes of one MIDI 1.0 stream into events of one cable. A contract sees the cable, and what is
-/// open of a message or an exclusive.
+/// Packs the bytes of one MIDI 1.0 stream into events of one cable. In contracts its value is the cable, and
+/// the message or exclusive that is still open.
 #[derive(Drop)]
 pub struct Packer {
     parser: Parser,
@@ -53,9 +53,9 @@ impl Packer {
     ghost use Rattle.usb_midi1.specs.Lend.{KeepsPacker};
     ghost use Rattle.usb_midi1.specs.Packed.{Packs};
 
-    /// Makes a packer for a stream that has had no byte yet. It takes all memory that it ever needs: for
-    /// exclusives of `room` bytes between F0 and F7, 6 to 1,048,576 (own rule). `NoMemory` is returned when
-    /// there isn't that much.
+    /// Creates a packer for a stream that has had no byte yet. Allocates all the memory that the packer will
+    /// ever need, for exclusives of `room` bytes between F0 and F7, 6 to 1,048,576 (own rule). Returns
+    /// `NoMemory` if there isn't enough.
     pub fn new(alloc: Global, cable: U4, room: u32) -> Result<Packer, NoMemory>
         requires least { 6 ≤ room }
         requires most { room ≤ 1048576 }
@@ -65,28 +65,28 @@ impl Packer {
         Ok(Packer { parser, cable })
     }
 
-    /// Drops what is open, and the running status (own rule): the packer equals a new one for the same cable
-    /// and of the same limit. It takes no memory.
+    /// Drops the message or exclusive that is open, and the running status (own rule). Afterwards the packer
+    /// equals a new one with the same cable and limit. The call doesn't allocate.
     pub fn reset(&mut self)
         ensures { self.new ≡ record { cable = self.old.cable; parsing = idle self.old.parsing.room } }
     {
         self.parser.reset();
     }
 
-    /// Takes one more byte, whose offset is the number of bytes before it. Returns its events (USB Device
-    /// Class Definition for MIDI Devices 1.0, code index numbers), each with its status byte, and its lines
-    /// of the listing (own rules). The call takes no memory.
+    /// Takes one more byte, whose offset is the number of bytes before it. Returns the byte's events (USB
+    /// Device Class Definition for MIDI Devices 1.0, code index numbers), each with its status byte, and the
+    /// byte's lines of the listing (own rules). The call doesn't allocate.
     ///
-    /// `TooLong` is returned exactly at the data byte that makes the bytes of an exclusive between F0 and F7
-    /// more than the limit; the exclusive is dropped (own rule).
+    /// Returns `TooLong` exactly at the data byte that makes an exclusive longer than the limit between F0
+    /// and F7. The packer then drops that exclusive (own rule).
     #[inline(always)]
     pub fn byte(&mut self, byte: u8, offset: u64) -> Result<Packed<'_>, TooLong>
         ensures answer { Packs self.old offset byte result }
         ensures* after { sem 𝓛 (KeepsPacker self.entry (packer_after self.old offset byte)) }
     {
         let cable = self.cable;
-        // Each arm returns, so that its answer is proved by itself: of all
-        // arms at once the search for a proof finds no end.
+        // Each arm returns, so that the prover handles each result alone. With all arms together its search
+        // doesn't end.
         match self.parser.byte(byte, offset) {
             Step::Held => return Ok(Packed::only_listed(cable, None, None)),
             Step::Voice(bytes) => {
@@ -109,8 +109,9 @@ impl Packer {
         }
     }
 
-    /// Returns the line of what is open at the end of the stream (own rule), with the offset at which it
-    /// starts and the cable as its group. Returns `None` exactly when nothing is open.
+    /// Returns the line for the message or exclusive that is still open at the end of the stream (own rule).
+    /// The line has the offset at which that message starts, and the cable as its group. Returns `None`
+    /// exactly when nothing is open.
     pub fn end(&self) -> Option<Listed>
         ensures { option_to_list result ≡ map (line_up self.now.cable) (kinds_at_end
             (option_map (λ begun. (begun.start, begun.kind)) (open_of self.now.parsing))) }

@@ -1,4 +1,4 @@
-// The events of messages.
+// Writes messages and exclusives as events.
 ghost use Rattle.std.specs.Prelude.{◌≡◌, ◌*◌, ◌<◌, ◌≤◌, [], ◌∷◌, drop, length, slice_index};
 ghost use Rattle.midi1_bytes.specs.Messages.{voice, spelled_system};
 ghost use Rattle.usb_midi1.specs.Packing.{
@@ -11,10 +11,10 @@ ghost use Rattle.usb_midi1.specs.Packing.{
 use midi1_bytes::{System, Voice1, write_system, write_voice};
 use small_types::U4;
 
-// The code of an exclusive's three bytes that aren't its last.
+// The code of an event that carries three bytes of an exclusive, but not its last byte.
 const EXCLUSIVE_GOES_ON: u8 = 4;
 
-// The event that carries these bytes, with zeros in the places after them.
+// Returns the event that carries these bytes, with zeros in the unused places.
 #[inline(always)]
 fn event(cable: U4, code: u8, bytes: &[u8]) -> [u8; 4]
     requires { code < 16 }
@@ -29,7 +29,7 @@ fn event(cable: U4, code: u8, bytes: &[u8]) -> [u8; 4]
     }
 }
 
-/// The event of a channel voice message: its code is the high half of the status byte.
+/// Returns the event of a channel voice message. Its code is the high half of the status byte.
 #[inline(always)]
 pub(crate) fn voice_event(cable: U4, message: &Voice1) -> [u8; 4]
     ensures { result ∷ [] ≡ message_events cable (voice message.now) }
@@ -39,8 +39,8 @@ pub(crate) fn voice_event(cable: U4, message: &Voice1) -> [u8; 4]
     event(cable, bytes[0] / 16, bytes)
 }
 
-// The code of a system message: 2 and 3 for a common one of two and
-// three bytes, 5 for one of a single byte, F for Real Time.
+// Returns the code of a system message: 2 or 3 for a common message of two or three bytes, 5 for one of a
+// single byte, and F for Real Time.
 fn system_code(message: &System) -> u8
     ensures code { result ≡ code_by message.now }
     ensures below { result < 16 }
@@ -58,7 +58,7 @@ fn system_code(message: &System) -> u8
     }
 }
 
-/// The event of a system common or system Real Time message.
+/// Returns the event of a system common or system Real Time message.
 #[inline(always)]
 pub(crate) fn system_event(cable: U4, message: &System) -> [u8; 4]
     ensures { result ≡ event_by cable (code_by message.now) (spelled_system message.now) }
@@ -70,10 +70,10 @@ pub(crate) fn system_event(cable: U4, message: &System) -> [u8; 4]
     )
 }
 
-/// Cuts event `k`, counted from 0, out of an exclusive from its F0 to its F7 (USB Device Class Definition for
-/// MIDI Devices 1.0, code index numbers). Each event carries three bytes, and the last one to three. The code
-/// of the last is 5, 6 or 7 by the number of its bytes, and that of the others is 4. Returns `None` exactly
-/// if `k` is past the last.
+/// Cuts event `k`, counted from 0, out of an exclusive, which is given from its F0 to its F7 (USB Device
+/// Class Definition for MIDI Devices 1.0, code index numbers). The last event carries one to three bytes, and
+/// its code is 5, 6 or 7 for one, two or three. Every other event carries three bytes and has code 4. Returns
+/// `None` exactly if `k` is past the last event.
 pub fn exclusive_event(cable: U4, whole: &[u8], k: usize) -> Option<[u8; 4]>
     requires { 2 ≤ length whole.now }
     ensures { result ≡ first_event cable (drop (3 * k) whole.now) }
@@ -82,7 +82,7 @@ pub fn exclusive_event(cable: U4, whole: &[u8], k: usize) -> Option<[u8; 4]>
     event_at_front(cable, &whole[start..])
 }
 
-// The event of the first bytes of what is left of an exclusive.
+// Returns the first event of the bytes of an exclusive that are left, or `None` if none are left.
 fn event_at_front(cable: U4, bytes: &[u8]) -> Option<[u8; 4]>
     ensures { result ≡ first_event cable bytes.now }
 {

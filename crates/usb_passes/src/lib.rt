@@ -1,5 +1,7 @@
-//! The passes over USB-MIDI 1.0 events: the events of a recording to the stream of each cable, and a stream
-//! to the events of a cable.
+//! Runs the USB-MIDI 1.0 commands over whole inputs: splits the events of a recording into the stream of each
+//! cable, and packs a byte stream into the events of one cable.
+//!
+//! Start with [`run_split`], or with [`PackRun`], whose `new` allocates, and [`run_pack`].
 #![tactic(auto)]
 
 pub mod laws;

@@ -1,4 +1,4 @@
-// From a stream of MIDI 1.0 bytes to events.
+// Packs a MIDI 1.0 byte stream into events.
 ghost use Rattle.std.specs.Prelude.{◌≡◌, ◌≤◌, ◌<◌, ◌++◌, [], IfOk, IfSome, length};
 ghost use Rattle.std.specs.Option.{option_map};
 ghost use Rattle.midi1_bytes.specs.Parsing.{open_of};
@@ -31,7 +31,7 @@ use usb_midi1::laws::{
 };
 use usb_midi1::{Packed, Packer, TooLong, exclusive_event};
 
-/// A packing that is ready to begin, with all its memory. A contract sees its options.
+/// A packing that is ready to begin and has all its memory. In contracts its value is the options.
 #[derive(Drop)]
 pub struct PackRun {
     packer: Packer,
@@ -50,9 +50,9 @@ impl Model for PackRun {
 }
 
 impl PackRun {
-    /// A packing into the events of this cable. `room` is the most bytes of an exclusive between F0 and F7, 6
-    /// to 1,048,576, for which memory is reserved (own rule); `NoMemory` if there isn't that much. No other
-    /// call takes any.
+    /// Creates a pass that packs bytes into the events of this cable. `room` is the most bytes of an
+    /// exclusive between F0 and F7, 6 to 1,048,576, for which memory is reserved (own rule). Returns
+    /// `NoMemory` if there isn't enough. No other call allocates.
     pub fn new(alloc: Global, cable: U4, room: u32) -> Result<PackRun, NoMemory>
         requires least { 6 ≤ room }
         requires most { room ≤ 1048576 }
@@ -63,8 +63,8 @@ impl PackRun {
     }
 }
 
-// Puts the events of each byte in the output and its lines in the
-// notes, at the end the line of what is still open.
+// Writes the events of each byte to the output and the byte's lines to the notes, and at the end the line for
+// the message that is still open.
 #[derive(Drop)]
 struct PackEngine {
     packer: Packer,
@@ -107,14 +107,15 @@ impl Engine<u64, u8> for PackEngine {
         packs_mean (pack_options first.packer) now.packer past puts holds put };
 }
 
-/// Packs a stream into the events of a cable, to its end or to the first byte that is refused (USB Device
-/// Class Definition for MIDI Devices 1.0, event packets; what comes to nothing is listed by own rule): puts
-/// the events of each message in the output when the byte that completes the message is read, and after those
-/// of a byte its lines in the notes, at the end the line of what is still open. Takes no memory.
+/// Packs a stream into the events of a cable, to the end of the stream or to the first byte that is refused
+/// (USB Device Class Definition for MIDI Devices 1.0, event packets; own rule: bytes that come to nothing are
+/// listed). Writes the events of each message to the output when it reads the byte that completes the
+/// message. After the events of a byte, writes the byte's lines to the notes, and at the end the line for the
+/// message that is still open. The call doesn't allocate.
 ///
-/// `Refused` comes for `InputTooLong` and `ExclusiveTooLong`, with the number of bytes before what is
-/// refused. `ReadFault`, `OutputFault` and `NoteFault` come only if the count of that object rose. The
-/// lanes are unchanged.
+/// Returns `Refused` for `InputTooLong` and `ExclusiveTooLong`, with the number of bytes before the byte that
+/// is refused. Returns `ReadFault`, `OutputFault` or `NoteFault` only if the fault count of that object rose.
+/// The lanes are unchanged.
 #[inline(never)]
 pub fn run_pack<S: Source, L: Lanes, W: Sink, N: Sink>(
     engine: PackRun,
@@ -135,7 +136,7 @@ pub fn run_pack<S: Source, L: Lanes, W: Sink, N: Sink>(
     drive(ByteReader::new(LIMIT), engine, input, lanes, output, notes)
 }
 
-// Packs one more byte: puts its events in the output, and then its lines in the notes.
+// Packs one more byte: writes its events to the output, and then its lines to the notes.
 #[inline(always)]
 fn pack_byte<O: Outputs>(
     packer: &mut Packer,
@@ -154,7 +155,7 @@ fn pack_byte<O: Outputs>(
     }
 }
 
-// Puts the events of a byte, and then its lines.
+// Writes the events of a byte, and then its lines.
 #[inline(always)]
 fn put_packed<O: Outputs>(packed: &Packed<'_>, outputs: &mut O) -> Result<(), RunEnd>
     requires apart { IsApart packed.now }
@@ -166,7 +167,7 @@ fn put_packed<O: Outputs>(packed: &Packed<'_>, outputs: &mut O) -> Result<(), Ru
     put_lines(&packed.lines, outputs)
 }
 
-// Puts the events of a byte.
+// Writes the events of a byte.
 #[inline(always)]
 fn put_events<O: Outputs>(packed: Packed<'_>, outputs: &mut O) -> Result<(), RunEnd>
     requires apart { IsApart packed }
@@ -183,7 +184,7 @@ fn put_events<O: Outputs>(packed: Packed<'_>, outputs: &mut O) -> Result<(), Run
     }
 }
 
-// Puts the events of an exclusive that is given from its F0 to its F7.
+// Writes the events of an exclusive that is given from its F0 to its F7.
 fn put_exclusive<O: Outputs>(cable: U4, whole: &[u8], outputs: &mut O) -> Result<(), RunEnd>
     requires { 2 ≤ length whole.now }
     ensures { Puts (event_puts (exclusive_events cable whole.now))
@@ -198,7 +199,7 @@ fn put_exclusive<O: Outputs>(cable: U4, whole: &[u8], outputs: &mut O) -> Result
     Ok(())
 }
 
-// Puts the line of what is still open at the end, if anything is.
+// Writes the line for the message that is still open at the end, if there is one.
 fn put_open<O: Outputs>(packer: &Packer, outputs: &mut O) -> Result<(), RunEnd>
     ensures { Puts (open_lines packer.now.cable (kinds_at_end
         (option_map (λ begun. (begun.start, begun.kind)) (open_of packer.now.parsing))))

@@ -1,4 +1,4 @@
-// From events to the stream of each cable.
+// Splits events into the stream of each cable.
 ghost use Rattle.std.specs.Prelude.{◌≡◌, ◌<◌, ◌∷◌, [], true, length};
 ghost use Rattle.pass_loop.specs.PassEnds.{PassEnds};
 ghost use Rattle.pass_loop.specs.Pass.{seen};
@@ -15,8 +15,8 @@ use small_types::U4;
 use text_lines::{Line, put_decimal, put_text};
 use usb_midi1::{EachEvent, Event, carried, is_reserved};
 
-// Puts what each event carries in the lane of its cable, and in the
-// notes a line for each event whose code is reserved.
+// Writes the bytes that each event carries to the lane of the event's cable, and a line for each event whose
+// code is reserved to the notes.
 #[derive(Drop)]
 struct SplitEngine;
 
@@ -51,13 +51,13 @@ impl Engine<u64, Event> for SplitEngine {
     ghost means = { λ first now past puts holds accepted put. splits_mean past puts put };
 }
 
-/// Splits a stream of events, to its end (USB Device Class Definition for MIDI Devices 1.0, event packets):
-/// puts the bytes that each event carries into the lane of its cable, and in the notes a line for each event
-/// whose code is reserved, which carries nothing (own rule). Takes no memory.
+/// Splits a stream of events, to its end (USB Device Class Definition for MIDI Devices 1.0, event packets).
+/// Writes the bytes that each event carries to the lane of the event's cable. An event whose code is reserved
+/// carries nothing, and a line for it is written to the notes (own rule). The call doesn't allocate.
 ///
-/// `Refused` comes for `Truncated` and `InputTooLong`, with the number of bytes before what is refused.
-/// `ReadFault`, `LaneFault` and `NoteFault` come only if the count of that object rose. The output stays
-/// as it is.
+/// Returns `Refused` for `Truncated` and `InputTooLong`, with the number of bytes before the end or event
+/// that is refused. Returns `ReadFault`, `LaneFault` or `NoteFault` only if the fault count of that object
+/// rose. The output is unchanged.
 pub fn run_split<S: Source, L: Lanes, W: Sink, N: Sink>(
     input: &mut S,
     lanes: &mut L,
@@ -80,8 +80,8 @@ pub fn run_split<S: Source, L: Lanes, W: Sink, N: Sink>(
     )
 }
 
-// Puts what an event carries into the lane of its cable, or its line
-// in the notes, if its code is reserved.
+// Writes the bytes that an event carries to the lane of the event's cable. If the code is reserved, writes
+// the event's line to the notes instead.
 #[inline(always)]
 fn put_event<O: Outputs>(event: &Event, offset: u64, outputs: &mut O) -> Result<(), RunEnd>
     requires begun { (O.places outputs.old).begun ≡ true }
@@ -94,7 +94,7 @@ fn put_event<O: Outputs>(event: &Event, offset: u64, outputs: &mut O) -> Result<
     }
 }
 
-// Puts the line of an event whose code is reserved.
+// Writes the line for an event whose code is reserved.
 fn put_reserved<O: Outputs>(offset: u64, cable: U4, outputs: &mut O) -> Result<(), RunEnd>
     ensures { Puts (in_notes (reserved_text offset cable) ∷ [])
         (O.places outputs.old) (O.places outputs.new) result }
@@ -103,7 +103,7 @@ fn put_reserved<O: Outputs>(offset: u64, cable: U4, outputs: &mut O) -> Result<(
     outputs.put_notes(line.as_slice())
 }
 
-// The line of an event whose code is reserved (own rule).
+// Returns the line for an event whose code is reserved (own rule).
 fn reserved_line(offset: u64, cable: U4) -> Line
     ensures text { result ≡ reserved_text offset cable }
     ensures some { 0 < length result }

@@ -3,7 +3,7 @@ ghost use Rattle.std.specs.Prelude.{◌≡◌, ◌<◌, ◌≤◌, ◌%◌, Matc
 
 use std::marker::Model;
 
-/// A number below 128, as in a data byte. A contract sees it as the number.
+/// A number from 0 to 127, such as a data byte. In contracts its value is that number.
 #[derive(Clone, Copy, Debug, PartialEq, Eq)]
 pub struct U7 {
     value: u8,
@@ -22,7 +22,7 @@ impl Model for U7 {
 }
 
 impl U7 {
-    /// The number; `None` exactly when it is 128 or more.
+    /// Returns the number as a `U7`, or `None` exactly if it is 128 or more.
     pub fn new(value: u8) -> Option<Self>
         ensures { MatchOption result (128 ≤ value) (λ u. (u ≡ value) × (value < 128)) }
     {
@@ -33,7 +33,7 @@ impl U7 {
         }
     }
 
-    /// The low seven bits of a number.
+    /// Returns the low seven bits of a number.
     pub fn low_bits(value: u32) -> Self
         ensures { result ≡ value % 128 }
     {
@@ -42,7 +42,7 @@ impl U7 {
         }
     }
 
-    /// The number, 0 to 127.
+    /// Returns the number, 0 to 127.
     pub fn get(self) -> u8
         ensures value { result ≡ self }
         ensures below { self < 128 }
@@ -51,7 +51,7 @@ impl U7 {
     }
 }
 
-/// A number below 16384, as in two data bytes. A contract sees it as the number.
+/// A number from 0 to 16,383, such as two data bytes contain. In contracts its value is that number.
 #[derive(Clone, Copy, Debug, PartialEq, Eq)]
 pub struct U14 {
     value: u16,
@@ -70,7 +70,7 @@ impl Model for U14 {
 }
 
 impl U14 {
-    /// The number; `None` exactly when it is 16384 or more.
+    /// Returns the number as a `U14`, or `None` exactly if it is 16,384 or more.
     pub fn new(value: u16) -> Option<Self>
         ensures { MatchOption result (16384 ≤ value) (λ u. (u ≡ value) × (value < 16384)) }
     {
@@ -81,7 +81,7 @@ impl U14 {
         }
     }
 
-    /// The low fourteen bits of a number.
+    /// Returns the low fourteen bits of a number.
     pub fn low_bits(value: u32) -> Self
         ensures { result ≡ value % 16384 }
     {
@@ -90,7 +90,7 @@ impl U14 {
         }
     }
 
-    /// The number, 0 to 16383.
+    /// Returns the number, 0 to 16,383.
     pub fn get(self) -> u16
         ensures value { result ≡ self }
         ensures below { self < 16384 }

@@ -5,28 +5,28 @@ ghost use Rattle.voice_messages.specs.Channels.{channel_of};
 use crate::small::{U7, U14};
 use small_types::U4;
 
-/// A channel voice message of the MIDI 1.0 protocol (MIDI 1.0
-/// Detailed Specification, channel voice messages).
+/// A channel voice message of the MIDI 1.0 protocol (MIDI 1.0 Detailed Specification, channel voice
+/// messages).
 #[derive(Clone, Copy, Debug, PartialEq, Eq)]
 pub enum Voice1 {
     /// Status 8n.
     NoteOff { channel: U4, note: U7, velocity: U7 },
     /// Status 9n.
     NoteOn { channel: U4, note: U7, velocity: U7 },
-    /// Status An: pressure of one key.
+    /// Status An: the pressure of one key.
     PolyPressure { channel: U4, note: U7, value: U7 },
     /// Status Bn: a control change.
     Control { channel: U4, index: U7, value: U7 },
     /// Status Cn: a program change.
     Program { channel: U4, program: U7 },
-    /// Status Dn: pressure of the channel.
+    /// Status Dn: the pressure of the channel.
     Pressure { channel: U4, value: U7 },
-    /// Status En: pitch bend, with its centre at 8,192.
+    /// Status En: pitch bend. Its centre is 8,192.
     Bend { channel: U4, value: U14 },
 }
 
 impl Voice1 {
-    /// The channel that the message is for, 0 to 15: the low half of its status byte (MIDI 1.0 Detailed
+    /// Returns the channel of the message, 0 to 15: the low half of its status byte (MIDI 1.0 Detailed
     /// Specification, channel voice messages).
     #[inline(always)]
     pub fn channel(&self) -> U4

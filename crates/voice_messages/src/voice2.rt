@@ -6,16 +6,16 @@ ghost use Rattle.voice_messages.specs.Forms.{form_at};
 use crate::small::U7;
 use small_types::U4;
 
-/// Which list of parameters or note controllers a number belongs to.
+/// The list that a parameter or note controller belongs to.
 #[derive(Clone, Copy, Debug, PartialEq, Eq)]
 pub enum ParamKind {
-    /// Registered by the standard.
+    /// The standard registers the number.
     Registered,
-    /// Assignable by the manufacturer.
+    /// The manufacturer assigns the number.
     Assignable,
 }
 
-/// A registered or assignable parameter, by the MSB (`bank`) and the LSB (`index`) of its number (MIDI 1.0
+/// A registered or assignable parameter. `bank` is the MSB of its number and `index` is the LSB (MIDI 1.0
 /// Detailed Specification, registered and non-registered parameter numbers).
 #[derive(Clone, Copy, Debug, PartialEq, Eq)]
 pub struct Param {
@@ -31,9 +31,9 @@ pub struct Bank {
     pub lsb: U7,
 }
 
-/// A channel voice message of the MIDI 2.0 protocol (M2-104-UM, MIDI 2.0 channel voice messages). Velocities
-/// and attributes have 16 bits, and values have 32; a bend has its centre at 0x8000_0000. A note whose
-/// `attribute_type` is 0 has no attribute.
+/// A channel voice message of the MIDI 2.0 protocol (M2-104-UM, MIDI 2.0 channel voice messages).
+/// Velocities and attributes have 16 bits, and values have 32. The centre of a bend is 0x8000_0000. A note
+/// whose `attribute_type` is 0 has no attribute.
 #[derive(Clone, Copy, Debug, PartialEq, Eq)]
 pub enum Voice2 {
     /// Opcode 8.
@@ -64,13 +64,13 @@ pub enum Voice2 {
         index: U7,
         value: u32,
     },
-    /// Opcodes 2 and 3: the value of a registered or assignable parameter.
+    /// Opcodes 2 and 3: sets the value of a registered or assignable parameter.
     Set {
         channel: U4,
         param: Param,
         value: u32,
     },
-    /// Opcodes 4 and 5: a change of a registered or assignable parameter, relative to its value.
+    /// Opcodes 4 and 5: changes a registered or assignable parameter, relative to its value.
     Shift {
         channel: U4,
         param: Param,
@@ -82,7 +82,7 @@ pub enum Voice2 {
         program: U7,
         bank: Option<Bank>,
     },
-    /// Opcode D: pressure of the channel.
+    /// Opcode D: the pressure of the channel.
     Pressure {
         channel: U4,
         value: u32,
@@ -106,7 +106,7 @@ pub enum Voice2 {
         note: U7,
         value: u32,
     },
-    /// Opcode F, with its byte of option flags.
+    /// Opcode F: manages one note, with a byte of option flags.
     NoteManagement {
         channel: U4,
         note: U7,
@@ -115,7 +115,7 @@ pub enum Voice2 {
 }
 
 impl Voice2 {
-    /// The channel that the message is for, 0 to 15 (M2-104-UM, MIDI 2.0 channel voice messages).
+    /// Returns the channel of the message, 0 to 15 (M2-104-UM, MIDI 2.0 channel voice messages).
     #[inline(always)]
     pub fn channel(&self) -> U4
         ensures { result ≡ channel2 self.now }
@@ -137,22 +137,22 @@ impl Voice2 {
     }
 }
 
-/// Which part of a message a packet carries (M2-104-UM, system exclusive and stream messages).
+/// The part of a message that a packet carries (M2-104-UM, system exclusive and stream messages).
 #[derive(Clone, Copy, Debug, PartialEq, Eq)]
 pub enum Form {
-    /// All of it.
+    /// The whole message.
     Complete,
-    /// Its start.
+    /// The start of the message.
     Start,
-    /// A part between its start and its end.
+    /// A part between the start and the end of the message.
     Continue,
-    /// Its end.
+    /// The end of the message.
     End,
 }
 
 impl Form {
-    /// The form of packet `k`, counted from 0, of a message in `count`
-    /// packets (M2-104-UM, system exclusive and stream messages).
+    /// Returns the form of packet `k`, counted from 0, in a message of `count` packets (M2-104-UM, system
+    /// exclusive and stream messages).
     pub fn at(k: usize, count: usize) -> Form
         requires { k < count }
         ensures { result ≡ form_at count k }

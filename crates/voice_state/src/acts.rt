@@ -1,4 +1,4 @@
-// The notes and channel mode messages that came.
+// The notes and channel mode messages that have arrived.
 ghost use Rattle.std.specs.Prelude.{◌≡◌, ◌≤◌, [], ◌∷◌, ◌++◌, length, IfOk, OnOk, OnErr, map};
 ghost use Rattle.voice_state.specs.Acts.{act_of};
 ghost use Rattle.voice_state.specs.Rooms.{IsFullWhere};
@@ -9,7 +9,8 @@ use small_types::NoMemory;
 use std::alloc::Global;
 use std::marker::Model;
 
-/// The notes and channel mode messages of a channel, as they came. To a contract it is the list of them.
+/// The notes and channel mode messages of a channel, in the order of arrival. In contracts its value is the
+/// list of them.
 #[derive(Drop)]
 pub(crate) struct Acts {
     acts: Vec<NoteAct>,
@@ -26,7 +27,8 @@ impl Model for Acts {
 }
 
 impl Acts {
-    /// An empty list. The memory for `taken` of them is taken here. `NoMemory` if there isn't enough.
+    /// Creates an empty list and allocates memory for `taken` entries. Returns `NoMemory` if the memory
+    /// can't be allocated.
     pub(crate) fn new(alloc: Global, taken: usize) -> Result<Acts, NoMemory>
         ensures { IfOk result (λ acts. acts ≡ []) }
     {
@@ -36,7 +38,7 @@ impl Acts {
         }
     }
 
-    /// Adds one at the end if there are fewer than `room`; otherwise nothing changes.
+    /// Appends an entry if there are fewer than `room`. Otherwise nothing changes.
     pub(crate) fn add(&mut self, act: NoteAct, room: usize) -> Result<(), NotKept>
         ensures added { OnOk result (self.new ≡ self.old ++ act_of act ∷ []) }
         ensures unchanged { OnErr result (self.new ≡ self.old) }
@@ -58,7 +60,7 @@ impl Acts {
         self.acts.clear();
     }
 
-    /// All of them, as they came.
+    /// Returns all entries, in the order of arrival.
     pub(crate) fn as_slice(&self) -> &[NoteAct]
         ensures { map act_of result.now ≡ self.now }
     {

@@ -1,4 +1,4 @@
-// What is kept of a channel.
+// The state of a channel.
 ghost use Rattle.std.specs.Prelude.{◌≡◌, ◌++◌, IfOk, OnOk, OnErr};
 ghost use Rattle.std.specs.Option.{option_map, option_to_list};
 ghost use Rattle.midi_meaning.specs.Messages.{Scale, as_they_come, raised, start_channel};
@@ -22,14 +22,14 @@ use small_types::{NoMemory, U4};
 use std::alloc::Global;
 use voice_messages::{Bank, U7};
 
-/// A program change, with the bank that it took.
+/// A program change, with the bank that was selected for it.
 #[derive(Clone, Copy, Debug)]
 pub(crate) struct ProgramChange {
     pub program: U7,
     pub bank: Option<Bank>,
 }
 
-/// What messages have left in a channel. The bend is `None` at its centre.
+/// The state in which messages have left a channel. The bend is `None` at its centre.
 #[derive(Drop)]
 pub(crate) struct Channel {
     pub acts: Acts,
@@ -85,7 +85,7 @@ impl Channel {
         self.registers = Registers::unset();
     }
 
-    /// Takes a note or a channel mode message. If it isn't kept, nothing changes.
+    /// Adds a note or a channel mode message. If it can't be stored, nothing changes.
     pub(crate) fn act(&mut self, act: NoteAct) -> Result<(), NotKept>
         ensures step { OnOk result
             ((scale : Scale) (state : definition.Channel) → KeepsChannel scale self.old state
@@ -97,7 +97,7 @@ impl Channel {
         self.acts.add(act, self.room.notes)
     }
 
-    /// Takes a bend, which isn't kept at its centre.
+    /// Sets the bend, which isn't stored at its centre.
     pub(crate) fn set_bend(&mut self, width: Width, value: u32)
         ensures step { (state : definition.Channel) → KeepsChannel (scale_of width) self.old state
             → KeepsChannel (scale_of width) self.new (definition.with_bend value state) }
@@ -110,7 +110,7 @@ impl Channel {
         };
     }
 
-    /// Takes a program change, with the bank that is selected.
+    /// Stores a program change, with the bank that is selected.
     pub(crate) fn set_program(&mut self, program: U7)
         ensures step { (scale : Scale) (state : definition.Channel) → KeepsChannel scale self.old state
             → KeepsChannel scale self.new (definition.with_program program state) }
@@ -120,7 +120,7 @@ impl Channel {
         self.program = Some(ProgramChange { program, bank });
     }
 
-    /// Adds the facts of the channel to a list.
+    /// Appends the facts of the channel to a list.
     pub(crate) fn put_facts(
         &self,
         facts: &mut Vec<Fact>,

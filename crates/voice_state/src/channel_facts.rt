@@ -14,8 +14,8 @@ use small_types::U4;
 use std::marker::Model;
 use voice_messages::ParamKind;
 
-/// The facts of one channel that are still to come, in the order of `VoiceState::facts`; no memory is taken
-/// for them. To a contract it is the list of them.
+/// The remaining facts of one channel, in the order of `VoiceState::facts`, without any memory for them. In
+/// contracts its value is the list of these facts.
 #[derive(Drop)]
 pub struct ChannelFacts<'a> {
     group: U4,
@@ -46,7 +46,7 @@ impl<'a> Model for ChannelFacts<'a> {
 }
 
 impl<'a> ChannelFacts<'a> {
-    /// All facts of a channel.
+    /// Returns all facts of a channel.
     pub(crate) fn of(kept: &'a Channel, group: U4, channel: U4) -> ChannelFacts<'a>
         ensures { (scale : Scale) (state : definition.Channel) → KeepsChannel scale kept.now state
             → result ≡ channel_facts scale group channel state }

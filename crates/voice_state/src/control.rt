@@ -1,4 +1,4 @@
-// What a control change does to a channel.
+// The effect of a control change on a channel.
 ghost use Rattle.std.specs.Prelude.{◌≡◌, false, OnOk, OnErr};
 ghost use Rattle.midi_meaning.specs.Controllers.{pairing, role_of};
 ghost use Rattle.midi_meaning.specs.Messages as messages;
@@ -19,7 +19,7 @@ use midi_meaning::ControlRole;
 use voice_messages::U7;
 
 impl Channel {
-    /// Takes a control change of the MIDI 1.0 protocol (MIDI 1.0 Detailed Specification, control change;
+    /// Applies a control change of the MIDI 1.0 protocol (MIDI 1.0 Detailed Specification, control change;
     /// RP-015). On error the state is unchanged.
     pub(crate) fn control(&mut self, width: Width, index: U7, value: U7) -> Result<(), NotKept>
         ensures step { OnOk result
@@ -71,8 +71,8 @@ impl Channel {
         }
     }
 
-    /// Takes a control change of the MIDI 2.0 protocol (M2-104-UM, MIDI 2.0 control change): the indexes of
-    /// banks, data entry and parameter numbers do nothing. If it isn't kept, nothing
+    /// Applies a control change of the MIDI 2.0 protocol (M2-104-UM, MIDI 2.0 control change). The indexes
+    /// of banks, data entry and parameter numbers have no effect. If the change can't be stored, nothing
     /// changes.
     pub(crate) fn control2(&mut self, index: U7, value: u32) -> Result<(), NotKept>
         ensures step { OnOk result ((state : definition.Channel) → KeepsChannel raised self.old state
@@ -102,7 +102,7 @@ impl Channel {
         }
     }
 
-    // A data entry of the MSB of the selected parameter.
+    // Applies a data entry of the MSB to the selected parameter.
     fn enter_msb(&mut self, width: Width, value: U7) -> Result<(), NotKept>
         ensures step { OnOk result
             ((state : definition.Channel) → KeepsChannel (scale_of width) self.old state
@@ -120,7 +120,7 @@ impl Channel {
         }
     }
 
-    // A data entry of the LSB of the selected parameter, which keeps its MSB.
+    // Applies a data entry of the LSB to the selected parameter, which keeps its MSB.
     fn enter_lsb(&mut self, width: Width, value: U7) -> Result<(), NotKept>
         ensures step { OnOk result
             ((state : definition.Channel) → KeepsChannel (scale_of width) self.old state
@@ -140,7 +140,7 @@ impl Channel {
         }
     }
 
-    // Reset all controllers (RP-015), which is a channel mode message too.
+    // Applies Reset All Controllers (RP-015), which is also a channel mode message.
     fn reset_all(&mut self, width: Width, index: U7, value: u32) -> Result<(), NotKept>
         ensures step { OnOk result
             ((state : definition.Channel) → KeepsChannel (scale_of width) self.old state
@@ -155,7 +155,7 @@ impl Channel {
         Ok(())
     }
 
-    // What it does besides.
+    // Applies the effects of Reset All Controllers other than the mode message.
     fn reset(&mut self, width: Width)
         ensures step { (state : definition.Channel) → KeepsChannel (scale_of width) self.old state
             → KeepsChannel (scale_of width) self.new (messages.reset (scale_of width) state) }
@@ -168,7 +168,7 @@ impl Channel {
         self.registers.take(ControlRole::ResetAll, U7::low_bits(0));
     }
 
-    // Expression at its greatest; modulation, hold, portamento, sostenuto and soft pedal at 0.
+    // Sets expression to its maximum, and modulation, hold, portamento, sostenuto and soft pedal to 0.
     fn reset_controllers(&mut self, width: Width)
         ensures step { (state : definition.Channel) → KeepsChannel (scale_of width) self.old state
             → KeepsChannel (scale_of width) self.new (with_controllers_reset (scale_of width) state) }

@@ -6,9 +6,9 @@ ghost use Rattle.voice_state.specs.Addresses.{address_of};
 use small_types::NoMemory;
 use voice_messages::{Bank, U4, U7};
 
-/// One fact about what messages have left in a receiver: a note or a channel mode message that came, or a
-/// value that isn't at its first one. Values are those of the stream, of 7 and 14 bits in MIDI 1.0
-/// bytes, of 16 and 32 bits in packets.
+/// One fact about the state in which messages have left a receiver: a note or a channel mode message that
+/// arrived, or a value that isn't the initial one. Values are those of the stream: of 7 and 14 bits for
+/// MIDI 1.0 bytes, of 16 and 32 bits for packets.
 #[derive(Clone, Copy, Debug, PartialEq, Eq)]
 pub enum Fact {
     /// A note on, with its velocity.
@@ -58,15 +58,15 @@ pub enum Fact {
         channel: U4,
         value: u32,
     },
-    /// The last program change, with the bank that it took.
+    /// The last program change, with the bank that was selected for it.
     Program {
         group: U4,
         channel: U4,
         program: U7,
         bank: Option<Bank>,
     },
-    /// A registered parameter by the MSB (`bank`) and the LSB (`index`) of its number: its value, if it
-    /// was set, and whether a relative change came since.
+    /// A registered parameter, by the MSB (`bank`) and the LSB (`index`) of its number: its value, if it
+    /// was set, and whether a relative change has arrived since.
     Registered {
         group: U4,
         channel: U4,
@@ -75,7 +75,7 @@ pub enum Fact {
         value: Option<u32>,
         loose: bool,
     },
-    /// The same of an assignable parameter.
+    /// An assignable parameter, with the same fields as a registered one.
     Assignable {
         group: U4,
         channel: U4,
@@ -84,19 +84,19 @@ pub enum Fact {
         value: Option<u32>,
         loose: bool,
     },
-    /// How many system common messages and exclusives came.
+    /// The number of system common messages and exclusives that have arrived.
     System {
         group: U4,
         count: u64,
     },
-    /// How many system Real Time messages came.
+    /// The number of system Real Time messages that have arrived.
     RealTime {
         group: U4,
         count: u64,
     },
 }
 
-/// What a fact is about: a channel of a group, or a whole group.
+/// The subject of a fact: a channel of a group, or a whole group.
 #[derive(Clone, Copy, Debug, PartialEq, Eq)]
 pub struct FactAddress {
     pub group: U4,
@@ -105,8 +105,8 @@ pub struct FactAddress {
 }
 
 impl Fact {
-    /// The group and the channel that the fact is about. A count of system messages is about the whole group
-    /// and has no channel.
+    /// Returns the group and the channel that the fact is about. A count of system messages is about the
+    /// whole group and has no channel.
     pub fn address(&self) -> FactAddress
         ensures { result ≡ address_of self.now }
     {
@@ -132,14 +132,14 @@ impl Fact {
     }
 }
 
-/// Adds a fact at the end, if there is one.
+/// Appends a fact, if there is one.
 pub(crate) fn put(facts: &mut Vec<Fact>, fact: Option<Fact>) -> Result<(), NoMemory>
     ensures { OnOk result (facts.new.items ≡ facts.old.items ++ option_to_list fact) }
 {
     let Some(fact) = fact else {
         return Ok(());
     };
-    // named here, so that the check knows of it in what a refused push hands back
+    // The type is named here, so that the check knows it in the value that a refused push hands back.
     let _: Option<Bank> = None;
     match facts.push(fact) {
         Ok(()) => Ok(()),

@@ -1,4 +1,4 @@
-// What is kept of a group.
+// The state of a group.
 ghost use Rattle.std.specs.Prelude.{◌≡◌, ◌++◌, IfOk, OnOk, OnErr};
 ghost use Rattle.std.specs.Option.{option_to_list};
 ghost use Rattle.voice_messages.specs.declared.voice1.System as system;
@@ -22,8 +22,8 @@ use std::alloc::Global;
 use std::marker::Model;
 use voice_messages::{Voice1, Voice2};
 
-/// What messages have left in the sixteen channels of a group, and how many system messages came. To a
-/// contract it is a record of these.
+/// The state in which messages have left the sixteen channels of a group, and the number of system messages
+/// that have arrived. In contracts its value is a record of these.
 #[derive(Drop)]
 pub(crate) struct Group {
     channels: Vec<Channel>,
@@ -47,7 +47,7 @@ impl Model for Group {
 }
 
 impl Group {
-    /// A group that has no message yet. The memory for `taken` is taken here, in each channel.
+    /// Creates a group before its first message. Allocates the memory for `taken` in each channel.
     pub(crate) fn new(alloc: Global, taken: Room, room: Room) -> Result<Group, NoMemory>
         ensures midi1 { IfOk result (λ group. KeepsGroup as_they_come group (start as_they_come)) }
         ensures packets { IfOk result (λ group. KeepsGroup raised group (start raised)) }
@@ -71,8 +71,8 @@ impl Group {
         })
     }
 
-    /// Empties the group: it is as before its first message, with the same rooms. No memory is taken or given
-    /// back.
+    /// Empties the group: it is as before its first message, with the same rooms. Allocates and frees no
+    /// memory.
     pub(crate) fn clear(&mut self)
         ensures midi1 { KeepsGroup as_they_come self.new (start as_they_come) }
         ensures packets { KeepsGroup raised self.new (start raised) }
@@ -86,7 +86,7 @@ impl Group {
         self.real_times = 0;
     }
 
-    /// Takes a message of the MIDI 1.0 protocol. If it isn't kept, nothing changes.
+    /// Applies a message of the MIDI 1.0 protocol. If it can't be stored, nothing changes.
     pub(crate) fn voice1(&mut self, width: Width, message: &Voice1) -> Result<(), NotKept>
         ensures step { OnOk result ((state : GroupState) → KeepsGroup (scale_of width) self.old state
             → KeepsGroup (scale_of width) self.new (after_voice1 (scale_of width) message.now state)) }
@@ -98,7 +98,7 @@ impl Group {
         channel.voice1(width, message)
     }
 
-    /// Takes a message of the MIDI 2.0 protocol. If it isn't kept, nothing changes.
+    /// Applies a message of the MIDI 2.0 protocol. If it can't be stored, nothing changes.
     pub(crate) fn voice2(&mut self, message: &Voice2) -> Result<(), NotKept>
         ensures step { OnOk result ((state : GroupState) → KeepsGroup raised self.old state
             → KeepsGroup raised self.new (after_voice2 message.now state)) }
@@ -130,7 +130,7 @@ impl Group {
         self.real_times = self.real_times.saturating_add(1);
     }
 
-    /// Adds the facts of the group: those of its channels, then the counts that aren't 0.
+    /// Appends the facts of the group: those of its channels, then the counts that aren't 0.
     pub(crate) fn put_facts(&self, facts: &mut Vec<Fact>, group: U4) -> Result<(), NoMemory>
         ensures { OnOk result ((scale : Scale) (state : GroupState) → KeepsGroup scale self.now state
             → facts.new.items ≡ facts.old.items ++ group_facts scale group state) }
@@ -150,7 +150,7 @@ impl Group {
         Ok(())
     }
 
-    /// The facts of a channel.
+    /// Returns the facts of a channel.
     pub(crate) fn channel_facts(&self, group: U4, channel: U4) -> ChannelFacts<'_>
         ensures { (scale : Scale) (state : GroupState) → KeepsGroup scale self.now state
             → result ≡ channel_facts scale group channel (state.channels channel) }
@@ -158,7 +158,7 @@ impl Group {
         ChannelFacts::of(&self.channels[channel.get() as usize], group, channel)
     }
 
-    /// The count of the system common messages and exclusives, if it isn't 0.
+    /// Returns the count of the system common messages and exclusives, if it isn't 0.
     pub(crate) fn system_fact(&self, group: U4) -> Option<Fact>
         ensures { option_to_list result ≡ count_facts (fact.System group) self.now.commons }
     {
@@ -170,7 +170,7 @@ impl Group {
         }
     }
 
-    /// The count of the Real Time messages, if it isn't 0.
+    /// Returns the count of the Real Time messages, if it isn't 0.
     pub(crate) fn real_time_fact(&self, group: U4) -> Option<Fact>
         ensures { option_to_list result ≡ count_facts (fact.RealTime group) self.now.real_times }
     {

@@ -1,4 +1,8 @@
-//! The running state of a receiver, updated with each byte of a MIDI 1.0 stream or each packet of a group.
+//! Tracks the state of a receiver, updated with each message of a MIDI 1.0 stream or each packet of a
+//! recording.
+//!
+//! Start with [`VoiceState`]: `new` allocates, `take_message` and `take_packet` update the state, and
+//! `facts` returns it as a list of [`Fact`].
 #![tactic(auto)]
 
 mod acts;

@@ -1,18 +1,18 @@
-// How much is kept, and why a message isn't.
+// The limits of a state, and the reasons why a message can't be stored.
 ghost use Rattle.std.specs.Prelude.{◌≡◌};
 ghost use Rattle.voice_state.specs.Rooms.{no_limit};
 
-/// Why a message isn't kept.
+/// The reason why a message can't be stored.
 #[derive(Clone, Copy, Debug, PartialEq, Eq)]
 pub enum NotKept {
-    /// It adds to a list that is full.
+    /// The list to which the message would be added is full.
     Full,
-    /// There isn't enough memory.
+    /// The memory can't be allocated.
     NoMemory,
 }
 
-/// The most notes and mode messages that a channel keeps, and the most parameters of each kind. If there
-/// is no limit, it's the greatest number: no list is as long.
+/// The maximum number of notes and mode messages of a channel, and of parameters of each kind. Without a
+/// limit, it's the greatest number, which the length of no list reaches.
 #[derive(Clone, Copy, Debug)]
 pub(crate) struct Room {
     pub notes: usize,

@@ -15,7 +15,7 @@ pub(crate) enum NoteAct {
 }
 
 impl NoteAct {
-    /// Its fact.
+    /// Returns the fact about the note or mode message.
     pub(crate) fn fact(self, group: U4, channel: U4) -> Fact
         ensures { result ≡ act_fact group channel (act_of self) }
     {

@@ -14,14 +14,14 @@ use std::alloc::Global;
 use std::marker::Model;
 use voice_messages::{ParamKind, U7};
 
-/// What is known of a parameter: its value, if it was set, and whether a relative change came since.
+/// The state of a parameter: its value, if it was set, and whether a relative change has arrived since.
 #[derive(Clone, Copy, Debug)]
 pub(crate) struct ParamState {
     pub value: Option<u32>,
     pub loose: bool,
 }
 
-// The number of a parameter, of 14 bits.
+// Returns the number of a parameter, which has 14 bits.
 fn number_of(bank: U7, index: U7) -> u16
     ensures number { result ≡ number_of bank index }
     ensures below { result < 16384 }
@@ -30,7 +30,7 @@ fn number_of(bank: U7, index: U7) -> u16
     bank.get() as u16 * 128 + index.get() as u16
 }
 
-// The fact of a parameter.
+// Returns the fact about a parameter.
 fn param_fact(group: U4, channel: U4, kind: ParamKind, number: u16, state: ParamState) -> Fact
     requires { number < 16384 }
     ensures { result ≡ param_fact group channel (param_of kind number) state.value state.loose }
@@ -58,8 +58,8 @@ fn param_fact(group: U4, channel: U4, kind: ParamKind, number: u16, state: Param
     }
 }
 
-/// The parameters of a kind that were set or changed, in the order of their numbers. To a contract it is the
-/// list of them.
+/// The parameters of a kind that were set or changed, in the order of their numbers. In contracts its value
+/// is the list of them.
 #[derive(Drop)]
 pub(crate) struct ParamMap {
     entries: Vec<(u16, ParamState)>,
@@ -78,7 +78,8 @@ impl Model for ParamMap {
 }
 
 impl ParamMap {
-    /// An empty list. The memory for `taken` of them is taken here. `NoMemory` if there isn't enough.
+    /// Creates an empty list and allocates memory for `taken` entries. Returns `NoMemory` if the memory
+    /// can't be allocated.
     pub(crate) fn new(alloc: Global, taken: usize) -> Result<ParamMap, NoMemory>
         ensures { IfOk result (λ map. map ≡ []) }
     {
@@ -95,7 +96,7 @@ impl ParamMap {
         self.entries.clear();
     }
 
-    // The place of the parameter of a number, or else the place at which it would be added.
+    // Returns the index of the parameter with this number, or else the index at which it would be added.
     fn place(&self, number: u16) -> Result<usize, usize>
         ensures found { IfOk result (IsAt self.now number) }
         ensures absent { IfErr result (IsGapFor self.now number) }
@@ -104,7 +105,7 @@ impl ParamMap {
             .binary_search_by_key(&number, |&(other, _)| other)
     }
 
-    /// What is known of a parameter.
+    /// Returns the state of a parameter.
     pub(crate) fn get(&self, bank: U7, index: U7) -> Option<ParamState>
         ensures state { result ≡ state_at self.now (number_of bank index) }
         ensures in_range { index < 128 }
@@ -115,8 +116,8 @@ impl ParamMap {
         }
     }
 
-    /// Replaces what is known of a parameter, or adds it if there are fewer than `room`; otherwise nothing
-    /// changes.
+    /// Replaces the state of a parameter, or adds the parameter if there are fewer than `room`. Otherwise
+    /// nothing changes.
     pub(crate) fn put(
         &mut self,
         bank: U7,
@@ -142,7 +143,7 @@ impl ParamMap {
         }
     }
 
-    // Adds a parameter at its place if there are fewer than `room`; otherwise nothing changes.
+    // Adds a parameter at its index if there are fewer than `room`. Otherwise nothing changes.
     fn add(
         &mut self,
         place: usize,
@@ -165,7 +166,7 @@ impl ParamMap {
         }
     }
 
-    /// The facts of the parameters, by their numbers.
+    /// Returns the facts about the parameters, in the order of their numbers.
     pub(crate) fn facts(&self, kind: ParamKind, group: U4, channel: U4) -> ParamFacts<'_>
         ensures { (state : definition.Channel) → IsOf kind self.now state
             → result ≡ params_in_order group channel kind state }
@@ -179,7 +180,7 @@ impl ParamMap {
     }
 }
 
-/// The facts of parameters that are still to come. To a contract it is the list of them.
+/// The remaining facts about parameters. In contracts its value is the list of them.
 #[derive(Drop)]
 pub(crate) struct ParamFacts<'a> {
     entries: &'a [(u16, ParamState)],
@@ -201,7 +202,7 @@ impl<'a> Model for ParamFacts<'a> {
 }
 
 impl ParamFacts<'_> {
-    /// The next fact, if there is one left.
+    /// Returns the next fact, if one is left.
     pub(crate) fn take_first(&mut self) -> Option<Fact>
         ensures { YieldsFirst (λ left. left) self.old result self.new }
     {

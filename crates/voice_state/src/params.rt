@@ -19,7 +19,8 @@ pub(crate) struct Params {
 }
 
 impl Params {
-    /// Empty lists. The memory for `taken` of each kind is taken here. `NoMemory` if there isn't enough.
+    /// Creates empty lists and allocates memory for `taken` parameters of each kind. Returns `NoMemory` if
+    /// the memory can't be allocated.
     pub(crate) fn new(alloc: Global, taken: usize) -> Result<Params, NoMemory>
         ensures { IfOk result (λ params. (scale : messages.Scale)
             → KeepsParams params (messages.start_channel scale)) }
@@ -40,7 +41,7 @@ impl Params {
         self.assignable.clear();
     }
 
-    /// The value of a parameter, if it was set.
+    /// Returns the value of a parameter, if it was set.
     pub(crate) fn value(&self, param: &Param) -> Option<u32>
         ensures { (state : definition.Channel) → KeepsParams self.now state
             → result ≡ state.params param.now }
@@ -51,7 +52,7 @@ impl Params {
         }
     }
 
-    // Whether a relative change came since a parameter was set.
+    // Returns whether a relative change has arrived since a parameter was set.
     fn is_loose(&self, param: &Param) -> bool
         ensures { (state : definition.Channel) → KeepsParams self.now state → result ≡ state.loose param.now }
     {
@@ -61,8 +62,8 @@ impl Params {
         }
     }
 
-    /// Sets the value of a parameter, which isn't loose any more. If it would be one more than `room` of its
-    /// kind, or there is no memory for it, nothing changes.
+    /// Sets the value of a parameter, which is no longer loose. If it would be one more than `room` of its
+    /// kind, or if the memory can't be allocated, nothing changes.
     pub(crate) fn set(&mut self, param: &Param, value: u32, room: usize) -> Result<(), NotKept>
         ensures set { OnOk result ((state : definition.Channel) → KeepsParams self.old state
             → KeepsParams self.new (definition.with_param param.now value state)) }
@@ -76,8 +77,8 @@ impl Params {
         self.put(param, state, room)
     }
 
-    /// Sets the value of a parameter, which stays as loose as it was. If it would be one more than `room` of
-    /// its kind, or there is no memory for it, nothing changes.
+    /// Sets the value of a parameter and leaves its looseness unchanged. If it would be one more than
+    /// `room` of its kind, or if the memory can't be allocated, nothing changes.
     pub(crate) fn set_value(
         &mut self,
         param: &Param,
@@ -97,8 +98,8 @@ impl Params {
         self.put(param, state, room)
     }
 
-    /// Makes a parameter loose; its value stays. If it would be one more than `room` of its kind, or there is
-    /// no memory for it, nothing changes.
+    /// Makes a parameter loose and leaves its value unchanged. If it would be one more than `room` of its
+    /// kind, or if the memory can't be allocated, nothing changes.
     pub(crate) fn loosen(&mut self, param: &Param, room: usize) -> Result<(), NotKept>
         ensures loosened { OnOk result ((state : definition.Channel) → KeepsParams self.old state
             → KeepsParams self.new (definition.with_looseness true param.now state)) }

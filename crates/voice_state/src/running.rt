@@ -1,4 +1,4 @@
-// What messages or packets have left in a receiver, kept as they come.
+// The state in which messages or packets have left a receiver.
 ghost use Rattle.std.specs.Prelude.{◌≡◌, ◌++◌, true, false, None, IfOk, OnOk, OnErr};
 ghost use Rattle.std.specs.Option.{option_to_list};
 ghost use Rattle.voice_messages.specs.declared.voice1.System as system;
@@ -23,14 +23,17 @@ use std::marker::Model;
 use ump_grammar::Packet;
 use voice_messages::{System, Voice1, Voice2};
 
-/// What the messages of a MIDI 1.0 stream, or the packets of a recording, have left in a receiver: the states
-/// of sixteen groups, with counts instead of the lists of system messages. To a contract it is what is kept
-/// of each group; `Keeps` says which states that stands for. One state takes either messages, of 7 and 14
-/// bits, or packets, of 16 and 32 bits; what one that took both stands for isn't promised.
+/// The state in which the messages of a MIDI 1.0 stream, or the packets of a recording, have left a
+/// receiver: the states of sixteen groups, with counts instead of the lists of system messages. In
+/// contracts its value is what is stored for each group, and `Keeps` relates it to the states of the
+/// definition.
 ///
-/// Notes and channel mode messages are kept as the list of all that came, and parameters in a list by their
-/// numbers. All other memory is taken when it is made, and the memory of the lists too if they have a
-/// room.
+/// Use one state either for messages, of 7 and 14 bits, or for packets, of 16 and 32 bits. Nothing is
+/// promised about a state that has taken both.
+///
+/// Notes and channel mode messages are stored as a list of all that have arrived, and parameters in a list
+/// by their numbers. The constructor allocates all other memory, and if the lists have a room, their memory
+/// too.
 #[derive(Drop)]
 pub struct VoiceState {
     groups: Vec<Group>,
@@ -48,8 +51,8 @@ impl Model for VoiceState {
 }
 
 impl VoiceState {
-    /// The state before the first message or packet. Its lists have no limit and take memory while they grow.
-    /// `NoMemory` if there isn't enough for its tables.
+    /// Creates the state before the first message or packet. The lists have no limit and allocate memory as
+    /// they grow. Returns `NoMemory` if the memory for the tables can't be allocated.
     pub fn new(alloc: Global) -> Result<VoiceState, NoMemory>
         ensures messages { IfOk result (λ state. Keeps as_they_come state (first_states as_they_come)) }
         ensures packets { IfOk result (λ state. Keeps raised state (first_states raised)) }
@@ -58,9 +61,9 @@ impl VoiceState {
         VoiceState::made(alloc, 0, Room::none(), Room::unlimited())
     }
 
-    /// The state before the first message or packet, with room for so many notes and mode messages of each
-    /// channel, and so many parameters of each kind and channel. All memory that it ever needs is taken here.
-    /// `NoMemory` if there isn't enough.
+    /// Creates the state before the first message or packet, with room for `notes` notes and mode messages
+    /// in each channel, and for `params` parameters of each kind in each channel. Allocates all the memory
+    /// that the state will ever need. Returns `NoMemory` if the memory can't be allocated.
     pub fn with_room(alloc: Global, notes: usize, params: usize) -> Result<VoiceState, NoMemory>
         ensures messages { IfOk result (λ state. Keeps as_they_come state (first_states as_they_come)) }
         ensures packets { IfOk result (λ state. Keeps raised state (first_states raised)) }
@@ -70,8 +73,8 @@ impl VoiceState {
         VoiceState::made(alloc, 16, room, room)
     }
 
-    /// The same for a stream, all whose messages are in group 0 (own rule): the memory of the lists is taken
-    /// for that group alone.
+    /// Creates the same state for a stream, all messages of which are in group 0 (own rule). Allocates the
+    /// memory of the lists for that group only.
     pub fn of_stream(alloc: Global, notes: usize, params: usize) -> Result<VoiceState, NoMemory>
         ensures messages { IfOk result (λ state. Keeps as_they_come state (first_states as_they_come)) }
         ensures packets { IfOk result (λ state. Keeps raised state (first_states raised)) }
@@ -81,8 +84,8 @@ impl VoiceState {
         VoiceState::made(alloc, 1, room, room)
     }
 
-    // The state before the first message. The memory for `taken` is taken here, in each channel of the first
-    // groups.
+    // Creates the state before the first message. Allocates the memory for `taken` in each channel of the
+    // first `with_room` groups.
     fn made(alloc: Global, with_room: u8, taken: Room, room: Room) -> Result<VoiceState, NoMemory>
         ensures messages { IfOk result (λ state. Keeps as_they_come state (first_states as_they_come)) }
         ensures packets { IfOk result (λ state. Keeps raised state (first_states raised)) }
@@ -107,8 +110,8 @@ impl VoiceState {
         Ok(VoiceState { groups })
     }
 
-    /// Empties the state: it is as `new`, `with_room` or `of_stream` made it, with the same room. No memory
-    /// is taken or given back.
+    /// Empties the state: it is as `new`, `with_room` or `of_stream` created it, with the same room.
+    /// Allocates and frees no memory.
     pub fn reset(&mut self)
         ensures messages { Keeps as_they_come self.new (first_states as_they_come) }
         ensures packets { Keeps raised self.new (first_states raised) }
@@ -120,8 +123,8 @@ impl VoiceState {
         }
     }
 
-    /// Takes a channel voice message of a MIDI 1.0 stream in a group, as `take_message` does. `NoMemory`
-    /// if it isn't kept, for want of memory or of room; then nothing changes.
+    /// Applies a channel voice message of a MIDI 1.0 stream to a group, as `take_message` does. Returns
+    /// `NoMemory` if the message can't be stored because memory or room is lacking; then nothing changes.
     pub fn apply1(&mut self, group: U4, m: &Voice1) -> Result<(), NoMemory>
         ensures step { OnOk result ((states : States) → Keeps as_they_come self.old states
             → Keeps as_they_come self.new (after_message group (voice m.now) states)) }
@@ -133,8 +136,8 @@ impl VoiceState {
         }
     }
 
-    /// Takes a packet, as `take_packet` does. `NoMemory` if it isn't kept, for want of memory or of room;
-    /// then nothing changes.
+    /// Applies a packet, as `take_packet` does. Returns `NoMemory` if the packet can't be stored because
+    /// memory or room is lacking; then nothing changes.
     pub fn apply2(&mut self, p: &Packet) -> Result<(), NoMemory>
         ensures step { OnOk result ((states : States) → Keeps raised self.old states
             → Keeps raised self.new (after_packet p.now None states)) }
@@ -146,9 +149,9 @@ impl VoiceState {
         }
     }
 
-    /// Takes a channel voice message of a MIDI 1.0 stream in a group (MIDI 1.0 Detailed Specification,
-    /// channel voice messages; RP-015). `Full` exactly when it adds to a list of its channel that is full.
-    /// If it isn't kept, nothing changes.
+    /// Applies a channel voice message of a MIDI 1.0 stream to a group (MIDI 1.0 Detailed Specification,
+    /// channel voice messages; RP-015). Returns `Full` exactly if the message would be added to a list of
+    /// its channel that is full. If the message can't be stored, nothing changes.
     pub fn take_message(&mut self, group: U4, m: &Voice1) -> Result<(), NotKept>
         ensures step { OnOk result ((states : States) → Keeps as_they_come self.old states
             → Keeps as_they_come self.new (after_message group (voice m.now) states)) }
@@ -159,9 +162,9 @@ impl VoiceState {
         self.voice1(Width::Midi1, group, m)
     }
 
-    /// Takes a packet (M2-104-UM). A packet of an exclusive changes nothing: whole exclusives are counted by
-    /// `system`. `Full` exactly when it adds to a list of its channel that is full. If it isn't kept,
-    /// nothing changes.
+    /// Applies a packet (M2-104-UM). A packet of an exclusive changes nothing, since `system` counts whole
+    /// exclusives. Returns `Full` exactly if the packet would be added to a list of its channel that is
+    /// full. If the packet can't be stored, nothing changes.
     pub fn take_packet(&mut self, p: &Packet) -> Result<(), NotKept>
         ensures step { OnOk result ((states : States) → Keeps raised self.old states
             → Keeps raised self.new (after_packet p.now None states)) }
@@ -185,8 +188,8 @@ impl VoiceState {
         }
     }
 
-    /// Counts a system message of a group: a Real Time message, or else a common message or a whole
-    /// exclusive. The counts stop at their greatest value.
+    /// Counts a system message of a group: a Real Time message if `real_time` is true, otherwise a common
+    /// message or a whole exclusive. The counts saturate at their maximum.
     pub fn system(&mut self, group: U4, real_time: bool)
         ensures common { real_time ≡ false → (scale : Scale) (states : States) (message : Message)
             → Keeps scale self.old states
@@ -203,7 +206,7 @@ impl VoiceState {
         }
     }
 
-    // Takes a message of the MIDI 1.0 protocol.
+    // Applies a message of the MIDI 1.0 protocol.
     fn voice1(&mut self, width: Width, group: U4, message: &Voice1) -> Result<(), NotKept>
         ensures step { OnOk result ((states : States) → Keeps (scale_of width) self.old states
             → Keeps (scale_of width) self.new
@@ -216,7 +219,7 @@ impl VoiceState {
         group.voice1(width, message)
     }
 
-    // Takes a message of the MIDI 2.0 protocol.
+    // Applies a message of the MIDI 2.0 protocol.
     fn voice2(&mut self, group: U4, message: &Voice2) -> Result<(), NotKept>
         ensures step { OnOk result ((states : States) → Keeps raised self.old states
             → Keeps raised self.new (at_group group (after_voice2 message.now) states)) }
@@ -248,8 +251,8 @@ impl VoiceState {
         group.count_real_time();
     }
 
-    /// The facts of one channel of a group, one at a time, in the order of `facts` (own rule). No memory is
-    /// taken.
+    /// Returns the facts about one channel of a group, one at a time, in the order of `facts` (own rule).
+    /// Allocates no memory.
     pub fn channel_facts(&self, group: U4, channel: U4) -> ChannelFacts<'_>
         ensures { (scale : Scale) (states : States) → Keeps scale self.now states
             → result ≡ channel_facts scale group channel ((states group).channels channel) }
@@ -257,7 +260,7 @@ impl VoiceState {
         self.groups[group.get() as usize].channel_facts(group, channel)
     }
 
-    /// The count of a group's system common messages and exclusives, if any came.
+    /// Returns the count of a group's system common messages and exclusives, if any have arrived.
     pub fn system_fact(&self, group: U4) -> Option<Fact>
         ensures { (scale : Scale) (states : States) → Keeps scale self.now states
             → option_to_list result ≡ count_facts (fact.System group) (count_of (states group).commons) }
@@ -265,7 +268,7 @@ impl VoiceState {
         self.groups[group.get() as usize].system_fact(group)
     }
 
-    /// The count of a group's Real Time messages, if any came.
+    /// Returns the count of a group's Real Time messages, if any have arrived.
     pub fn real_time_fact(&self, group: U4) -> Option<Fact>
         ensures { (scale : Scale) (states : States) → Keeps scale self.now states
             → option_to_list result ≡ count_facts (fact.RealTime group) (count_of (states group).real_times) }
@@ -273,10 +276,11 @@ impl VoiceState {
         self.groups[group.get() as usize].real_time_fact(group)
     }
 
-    /// What isn't at its first value, in order (own rule): by group and channel; of a channel the notes and
-    /// mode messages as they came, then poly pressures by note, controllers by index, the pressure, the bend,
-    /// the program, registered and assignable parameters by bank and index; after a group's channels its
-    /// counts.
+    /// Returns a fact for every note and mode message, and for every value that isn't the initial one, in
+    /// this order (own rule). The facts are ordered by group and channel. Within a channel come the notes
+    /// and mode messages in the order of arrival, then poly pressures by note, controllers by index, the
+    /// pressure, the bend, the program, and registered and assignable parameters by bank and index. The
+    /// counts of a group come after its channels.
     pub fn facts(&self, alloc: Global) -> Result<Vec<Fact>, NoMemory>
         ensures { IfOk result (λ facts. (scale : Scale) (states : States) → Keeps scale self.now states
             → facts.items ≡ facts_of scale states) }
@@ -286,7 +290,8 @@ impl VoiceState {
         Ok(facts)
     }
 
-    /// Adds the facts to a list. `NoMemory` if the list has to grow and there isn't enough memory.
+    /// Appends the facts to a list. Returns `NoMemory` if the list has to grow and the memory can't be
+    /// allocated.
     pub fn put_facts(&self, facts: &mut Vec<Fact>) -> Result<(), NoMemory>
         ensures { OnOk result ((scale : Scale) (states : States) → Keeps scale self.now states
             → facts.new.items ≡ facts.old.items ++ facts_of scale states) }
@@ -298,7 +303,7 @@ impl VoiceState {
     }
 }
 
-// Whether a system message is a Real Time message.
+// Returns whether a system message is a Real Time message.
 fn is_real_time(message: &System) -> bool
     ensures { result ≡ is_real_time (system_message message.now) }
 {

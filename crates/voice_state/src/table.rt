@@ -1,4 +1,4 @@
-// Values by an index of seven bits.
+// Tables of values by an index of seven bits.
 ghost use Rattle.std.specs.Prelude.{◌≡◌, ℕ, ◌<◌, ◌==◌, None, Option, IfOk};
 ghost use Rattle.std.specs.Option.{option_map};
 ghost use Rattle.midi_meaning.specs.State.{put};
@@ -12,7 +12,7 @@ use std::alloc::Global;
 use std::marker::Model;
 use voice_messages::U7;
 
-/// What a table is of.
+/// The kind of values in a table.
 #[derive(Clone, Copy, Debug)]
 pub(crate) enum Content {
     KeyPressures,
@@ -20,7 +20,7 @@ pub(crate) enum Content {
 }
 
 impl Content {
-    // The fact of a value.
+    // Returns the fact about a value.
     fn fact(self, group: U4, channel: U4, index: U7, value: u32) -> Fact
         ensures { result ≡ table_fact self group channel index value }
     {
@@ -41,8 +41,8 @@ impl Content {
     }
 }
 
-/// The pressures of 128 keys, or the values of 128 controllers, each if it was set. To a contract it is the
-/// list of them.
+/// The pressures of 128 keys, or the values of 128 controllers, each if it was set. In contracts its value
+/// is the list of them.
 #[derive(Drop)]
 pub(crate) struct Table {
     cells: Vec<Option<u32>>,
@@ -59,7 +59,7 @@ impl Model for Table {
 }
 
 impl Table {
-    /// No value is set. All memory that the table ever needs is taken here.
+    /// Creates a table with no value set. Allocates all the memory that the table will ever need.
     pub(crate) fn new(alloc: Global) -> Result<Table, NoMemory>
         ensures { IfOk result (λ table. (index : ℕ) → at table index ≡ None) }
     {
@@ -83,7 +83,7 @@ impl Table {
         self.cells.fill(None);
     }
 
-    /// The facts of the values that are set, by their index.
+    /// Returns the facts about the values that are set, by index.
     pub(crate) fn facts(&self, content: Content, group: U4, channel: U4) -> TableFacts<'_>
         ensures { (map : ℕ → Option ℕ) → ((index : ℕ) → at self.now index ≡ map index)
             → result ≡ in_order (table_fact content group channel) map }
@@ -97,7 +97,7 @@ impl Table {
         }
     }
 
-    // The fact of the value at an index, if it is set.
+    // Returns the fact about the value at an index, if it is set.
     fn fact(&self, content: Content, group: U4, channel: U4, index: u8) -> Option<Fact>
         requires { index < 128 }
         ensures { result ≡ option_map (table_fact content group channel index) (at self.now index) }
@@ -107,7 +107,7 @@ impl Table {
     }
 }
 
-/// The facts of a table that are still to come. To a contract it is the list of them.
+/// The remaining facts about a table. In contracts its value is the list of them.
 #[derive(Drop)]
 pub(crate) struct TableFacts<'a> {
     table: &'a Table,
@@ -128,7 +128,7 @@ impl<'a> Model for TableFacts<'a> {
 }
 
 impl TableFacts<'_> {
-    /// The next fact, if there is one left.
+    /// Returns the next fact, if one is left.
     pub(crate) fn take_first(&mut self) -> Option<Fact>
         ensures { YieldsFirst (λ left. left) self.old result self.new }
     {

@@ -1,4 +1,4 @@
-// What a channel voice message does to a channel.
+// The effect of a channel voice message on a channel.
 ghost use Rattle.std.specs.Prelude.{◌≡◌, true, false, if◌then◌else◌, OnOk, OnErr};
 ghost use Rattle.midi_meaning.specs.Messages.{note_on, raised, voice_at};
 ghost use Rattle.midi_meaning.specs.Packets.{program2, set_param, voice2_at};
@@ -16,7 +16,8 @@ use crate::width::Width;
 use midi_meaning::is_null_param;
 use voice_messages::{Bank, Param, U7, Voice1, Voice2};
 
-// A note on, and of velocity 0 a note off of velocity 64 (MIDI 1.0 Detailed Specification, note on).
+// Returns a note on, or a note off of velocity 64 if the velocity is 0 (MIDI 1.0 Detailed Specification,
+// note on).
 fn note_on(width: Width, note: U7, velocity: U7) -> NoteAct
     ensures { act_of result ≡ note_on (scale_of width) note velocity }
 {
@@ -30,7 +31,7 @@ fn note_on(width: Width, note: U7, velocity: U7) -> NoteAct
 }
 
 impl Channel {
-    /// Takes a message of the MIDI 1.0 protocol. If it isn't kept, nothing changes.
+    /// Applies a message of the MIDI 1.0 protocol. If it can't be stored, nothing changes.
     pub(crate) fn voice1(&mut self, width: Width, message: &Voice1) -> Result<(), NotKept>
         ensures step { OnOk result
             ((state : definition.Channel) → KeepsChannel (scale_of width) self.old state
@@ -65,8 +66,8 @@ impl Channel {
         }
     }
 
-    /// Takes a message of the MIDI 2.0 protocol (M2-104-UM, MIDI 2.0 channel voice messages). If it
-    /// isn't kept, nothing changes.
+    /// Applies a message of the MIDI 2.0 protocol (M2-104-UM, MIDI 2.0 channel voice messages). If it can't
+    /// be stored, nothing changes.
     pub(crate) fn voice2(&mut self, message: &Voice2) -> Result<(), NotKept>
         ensures step { OnOk result ((state : definition.Channel) → KeepsChannel raised self.old state
             → KeepsChannel raised self.new (voice2_at false message.now state)) }
@@ -102,7 +103,7 @@ impl Channel {
         }
     }
 
-    // The value of a parameter, which is selected by it; the null parameter takes none.
+    // Sets the value of a parameter, and selects the parameter. The null parameter accepts no value.
     fn set_param(&mut self, param: &Param, value: u32) -> Result<(), NotKept>
         ensures step { OnOk result ((state : definition.Channel) → KeepsChannel raised self.old state
             → KeepsChannel raised self.new
@@ -119,7 +120,8 @@ impl Channel {
         Ok(())
     }
 
-    // A relative change of a parameter, which leaves its value; the null parameter takes none.
+    // Applies a relative change to a parameter, which keeps its value. The null parameter accepts no
+    // change.
     fn loosen(&mut self, param: &Param) -> Result<(), NotKept>
         ensures step { OnOk result ((state : definition.Channel) → KeepsChannel raised self.old state
             → KeepsChannel raised self.new
@@ -134,7 +136,7 @@ impl Channel {
         self.params.loosen(param, self.room.params)
     }
 
-    // A program change, which may select its bank.
+    // Applies a program change, which may select its bank.
     fn program2(&mut self, program: U7, bank: Option<Bank>)
         ensures step { (state : definition.Channel) → KeepsChannel raised self.old state
             → KeepsChannel raised self.new (program2 bank program state) }

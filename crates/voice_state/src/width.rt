@@ -1,4 +1,4 @@
-// How wide the values are that are kept.
+// The width of the stored values.
 ghost use Rattle.std.specs.Prelude.{◌≡◌, ◌*◌, ℕ};
 ghost use Rattle.midi_meaning.specs.Messages.{with_new_lsb};
 ghost use Rattle.voice_state.specs.ForProofs.Widths.{scale_of};
@@ -6,12 +6,12 @@ ghost use Rattle.voice_state.specs.ForProofs.Widths.{scale_of};
 use bit_scaling::{down14, up7, up14, velocity_up};
 use voice_messages::{U7, U14};
 
-/// How wide the values are that are kept of the messages of the MIDI 1.0 protocol.
+/// The width of the values that are stored for messages of the MIDI 1.0 protocol.
 #[derive(Clone, Copy, Debug)]
 pub(crate) enum Width {
-    /// As they come, in 7 and 14 bits.
+    /// Unchanged, in 7 and 14 bits.
     Midi1,
-    /// Raised to 16 and 32 bits (M2-115-U).
+    /// Scaled up to 16 and 32 bits (M2-115-U).
     Midi2,
 }
 
@@ -25,7 +25,7 @@ impl Width {
         }
     }
 
-    /// A pressure or the value of a channel mode message.
+    /// Returns a pressure or the value of a channel mode message.
     pub(crate) fn value(self, value: U7) -> u32
         ensures { result ≡ (scale_of self).value value }
     {
@@ -35,14 +35,14 @@ impl Width {
         }
     }
 
-    /// The value of any controller.
+    /// Returns the value of any controller.
     pub(crate) fn controller(self, value: U7) -> u32
         ensures { (index : ℕ) → result ≡ (scale_of self).controller index value }
     {
         self.value(value)
     }
 
-    /// A value of 14 bits.
+    /// Returns a value of 14 bits.
     pub(crate) fn wide(self, value: U14) -> u32
         ensures { result ≡ (scale_of self).wide value }
     {
@@ -52,22 +52,22 @@ impl Width {
         }
     }
 
-    /// The centre of a bend.
+    /// Returns the centre of a bend.
     pub(crate) fn centre(self) -> u32
         ensures { result ≡ (scale_of self).wide 8192 }
     {
         self.wide(U14::low_bits(8192))
     }
 
-    /// The value of a parameter after a data entry of its MSB, by which the LSB is 0 (own rule).
+    /// Returns the value of a parameter after a data entry of its MSB, which sets the LSB to 0 (own rule).
     pub(crate) fn of_msb(self, msb: U7) -> u32
         ensures { result ≡ (scale_of self).wide (msb * 128) }
     {
         self.wide(U14::low_bits(msb.get() as u32 * 128))
     }
 
-    /// The value of a parameter after a data entry of its LSB, which
-    /// keeps the MSB of the old value, or 0 if there is none.
+    /// Returns the value of a parameter after a data entry of its LSB, which keeps the MSB of the old
+    /// value, or 0 if there is none.
     pub(crate) fn with_new_lsb(self, old: Option<u32>, lsb: U7) -> u32
         ensures { result ≡ with_new_lsb (scale_of self) old lsb }
     {

@@ -1,5 +1,5 @@
 // Messages by hand from the tables of M2-101-UM, and the most messages of a rehearsal. The rows of
-// `midi_commands_tests` tell of other rehearsals.
+// `worked_rows` tell of other rehearsals.
 use super::{has_text, is_same};
 use ci_initiator::{Ask, EventFault, Initiator, Noted, Rehearsal, Told, Watch, watches_differ};
 use ci_messages::laws::views_that_are_read_fit;

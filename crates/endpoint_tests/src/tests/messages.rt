@@ -1,4 +1,5 @@
-// Messages by hand from the tables of M2-101-UM: read and written, cut short, and refused.
+// Messages by hand from the tables of M2-101-UM, read and written. The rows of `worked_rows` tell of those that
+// are only read: cut short, refused, or with bytes after their fields.
 ghost use Rattle.std.specs.Prelude.{◌≤◌, length};
 ghost use Rattle.ci_messages.specs.Fields.{IsData};
 ghost use Rattle.ci_messages.specs.Writing.{IsView, message_bytes};
@@ -45,14 +46,6 @@ macro_rules! view_of {
 fn is_read(payload: &[u8], view: &CiView<'_>) -> bool {
     match framed(payload) {
         Some(message) => matches!(read(message.as_slice()), Ok(found) if found == *view),
-        None => false,
-    }
-}
-
-// Whether the bytes between F0 and F7 are refused for the fault.
-fn is_refused(payload: &[u8], fault: CiFault) -> bool {
-    match framed(payload) {
-        Some(message) => matches!(read(message.as_slice()), Err(found) if found == fault),
         None => false,
     }
 }
@@ -192,13 +185,6 @@ fn unread_messages(rt: HostRuntime) {
     assert!(rt; is_row(&bytes, &view_of!(0x3F, Body::Property(&[0x01, 0x02, 0x03]))));
     assert!(rt; is_row(&bytes, &view_of!(0x29, Body::Other(&[0x01, 0x02, 0x03]))));
     assert!(rt; is_row(&[], &view_of!(0x40, Body::Other(&[]))));
-    for sub in [0x00, 0x1F, 0x26, 0x2F, 0x40, 0x6F, 0x74, 0x7D] {
-        let view = view_of!(sub, Body::Other(&bytes));
-        match payload(sub, 2, &bytes) {
-            Some(payload) => assert!(rt; is_read(payload.as_slice(), &view), "sub-id {sub}"),
-            None => assert!(rt; false, "sub-id {sub}"),
-        }
-    }
 }
 
 // A Discovery to broadcast, and a switch of a profile.
@@ -265,52 +251,6 @@ fn the_most_profiles(rt: HostRuntime) {
         off: &[0x11; 320],
     };
     assert!(rt; is_row(&bytes, &view_of!(0x21, reply)));
-}
-
-#[test]
-fn addresses(rt: HostRuntime) {
-    for (number, address) in [
-        (0x00, Address::Channel(U4::low_bits(0))),
-        (0x0F, Address::Channel(U4::low_bits(15))),
-        (0x7E, Address::Group),
-        (0x7F, Address::Block),
-    ] {
-        let mut payload = SET_ON;
-        payload[1] = number;
-        match framed(&payload) {
-            Some(message) => match read(message.as_slice()) {
-                Ok(found) => assert!(rt; found.address == address, "address {number}"),
-                Err(_) => assert!(rt; false, "address {number}"),
-            },
-            None => assert!(rt; false, "address {number}"),
-        }
-    }
-    for number in [0x10, 0x7D] {
-        let mut payload = SET_ON;
-        payload[1] = number;
-        assert!(rt;
-            is_refused(&payload, CiFault::BadAddress),
-            "address {number}"
-        );
-    }
-}
-
-#[test]
-fn versions(rt: HostRuntime) {
-    for version in [1, 3, 127] {
-        let view = view_of!(0x7E, version, Body::Invalidate { target: 5 });
-        match payload(0x7E, version, &[0x05, 0x00, 0x00, 0x00]) {
-            Some(payload) => assert!(rt; is_read(payload.as_slice(), &view), "version {version}"),
-            None => assert!(rt; false, "version {version}"),
-        }
-    }
-    for sub in [0x70, 0x7E, 0x30] {
-        let view = view_of!(sub, 0, Body::Other(&[0x05]));
-        match payload(sub, 0, &[0x05]) {
-            Some(payload) => assert!(rt; is_read(payload.as_slice(), &view), "sub-id {sub}"),
-            None => assert!(rt; false, "sub-id {sub}"),
-        }
-    }
 }
 
 // Of a Discovery the path has no place, and of its reply neither the path nor the block.
@@ -397,171 +337,6 @@ fn short_profile_messages(rt: HostRuntime) {
         channels: 0,
     };
     assert!(rt; is_row(&bytes, &view_of!(0x25, 1, disabled)));
-}
-
-// The fault of the exclusive with these bytes between F0 and F7; `None` if it is read.
-fn fault_of(payload: &[u8]) -> Option<CiFault> {
-    let message = framed(payload)?;
-    match read(message.as_slice()) {
-        Ok(_) => None,
-        Err(fault) => Some(fault),
-    }
-}
-
-#[test]
-fn each_prefix(rt: HostRuntime) {
-    // Each sub-id with a body that ends with its last field.
-    let rows: [(u8, &[u8]); 11] = [
-        (0x70, &[0x01; 17]),
-        (0x71, &[0x01; 18]),
-        (0x72, &[0x01]),
-        (0x73, &[0x01, 0x02, 0x00, 0x6E, 0x6F]),
-        (0x7E, &[0x01; 4]),
-        (
-            0x7F,
-            &[
-                0x01, 0x01, 0x01, 0x01, 0x01, 0x01, 0x01, 0x01, 0x01, 0x00, 0x6E,
-            ],
-        ),
-        (
-            0x21,
-            &[
-                0x01, 0x00, 0x01, 0x01, 0x01, 0x01, 0x01, 0x01, 0x00, 0x01, 0x01, 0x01, 0x01, 0x01,
-            ],
-        ),
-        (0x22, &[0x01; 7]),
-        (0x23, &[0x01; 7]),
-        (0x24, &[0x01; 7]),
-        (0x25, &[0x01; 7]),
-    ];
-    for (sub, body) in rows {
-        let Some(whole) = payload(sub, 2, body) else {
-            assert!(rt; false, "sub-id {sub}");
-            return;
-        };
-        let whole = whole.as_slice();
-        for size in 0..whole.len() {
-            let fault = if size < 4 {
-                CiFault::NotCi
-            } else {
-                CiFault::Short
-            };
-            assert!(rt;
-                is_refused(&whole[..size], fault),
-                "sub-id {sub}, {size} bytes"
-            );
-        }
-        assert!(rt; fault_of(whole).is_none(), "sub-id {sub}");
-    }
-}
-
-// A message of version 01 that ends before its last field, and one that goes on after it.
-#[test]
-fn each_end_of_a_short_message(rt: HostRuntime) {
-    for (sub, size) in [
-        (0x70, 16),
-        (0x71, 16),
-        (0x7E, 4),
-        (0x21, 4),
-        (0x22, 5),
-        (0x23, 5),
-        (0x24, 5),
-        (0x25, 5),
-    ] {
-        let Some(whole) = payload(sub, 1, &[0x00; 20]) else {
-            assert!(rt; false, "sub-id {sub}");
-            return;
-        };
-        let whole = whole.as_slice();
-        assert!(rt;
-            is_refused(&whole[..(12 + size).min(whole.len())], CiFault::Short),
-            "sub-id {sub}"
-        );
-        assert!(rt;
-            fault_of(&whole[..(13 + size).min(whole.len())]).is_none(),
-            "sub-id {sub}"
-        );
-        assert!(rt; fault_of(whole).is_none(), "sub-id {sub}");
-    }
-    for sub in [0x20, 0x30, 0x40, 0x72, 0x73, 0x7F] {
-        match payload(sub, 1, &[]) {
-            Some(payload) => assert!(rt; fault_of(payload.as_slice()).is_none(), "sub-id {sub}"),
-            None => assert!(rt; false, "sub-id {sub}"),
-        }
-    }
-}
-
-#[test]
-fn each_prefix_of_what_has_no_end(rt: HostRuntime) {
-    for sub in [0x20, 0x30, 0x40] {
-        let Some(whole) = payload(sub, 2, &[0x01; 3]) else {
-            assert!(rt; false, "sub-id {sub}");
-            return;
-        };
-        let whole = whole.as_slice();
-        for size in 0..whole.len() {
-            let fault = match size {
-                0..=3 => Some(CiFault::NotCi),
-                4..=12 => Some(CiFault::Short),
-                _ => None,
-            };
-            assert!(rt;
-                fault_of(&whole[..size]) == fault,
-                "sub-id {sub}, {size} bytes"
-            );
-        }
-        assert!(rt; fault_of(whole).is_none(), "sub-id {sub}");
-    }
-}
-
-#[test]
-fn bytes_after_the_fields(rt: HostRuntime) {
-    let invalidate = view_of!(0x7E, Body::Invalidate { target: 5 });
-    let inquiry = view_of!(0x20, Body::ProfileInquiry);
-    match payload(0x7E, 2, &[0x05, 0x00, 0x00, 0x00, 0x01, 0x02]) {
-        Some(payload) => assert!(rt; is_read(payload.as_slice(), &invalidate)),
-        None => assert!(rt; false),
-    }
-    match payload(0x20, 2, &[0x01, 0x02]) {
-        Some(payload) => assert!(rt; is_read(payload.as_slice(), &inquiry)),
-        None => assert!(rt; false),
-    }
-}
-
-#[test]
-fn the_first_fault(rt: HostRuntime) {
-    // Neither universal and non-realtime nor of MIDI-CI, however short.
-    assert!(rt; is_refused(&[], CiFault::NotCi));
-    assert!(rt; is_refused(&[0x7F, 0x7F, 0x0D, 0x70], CiFault::NotCi));
-    assert!(rt; is_refused(&[0x7E, 0x7F, 0x0E, 0x70], CiFault::NotCi));
-    // Too short, though no address is 10.
-    assert!(rt; is_refused(&[0x7E, 0x7F, 0x0D, 0x70], CiFault::Short));
-    assert!(rt; is_refused(&[0x7E, 0x10, 0x0D, 0x20], CiFault::Short));
-    // No address, though broadcast is no source.
-    let mut inquiry = [
-        0x7E, 0x10, 0x0D, 0x20, 0x02, 0x7F, 0x7F, 0x7F, 0x7F, 0x7F, 0x7F, 0x7F, 0x7F,
-    ];
-    assert!(rt; is_refused(&inquiry, CiFault::BadAddress));
-    // Broadcast, and the first and last of the reserved MUIDs.
-    inquiry[1] = 0x7F;
-    assert!(rt; is_refused(&inquiry, CiFault::ReservedMuid));
-    inquiry[5] = 0x7E;
-    assert!(rt; is_refused(&inquiry, CiFault::ReservedMuid));
-    inquiry[5] = 0x00;
-    inquiry[6] = 0x7E;
-    assert!(rt; is_refused(&inquiry, CiFault::ReservedMuid));
-    // The MUID before them, to broadcast.
-    inquiry[5] = 0x7F;
-    inquiry[6] = 0x7D;
-    let view = CiView {
-        address: Address::Block,
-        sub: 0x20,
-        version: 2,
-        source: 0x0FFF_FEFF,
-        destination: 0x0FFF_FFFF,
-        body: Body::ProfileInquiry,
-    };
-    assert!(rt; is_read(&inquiry, &view));
 }
 
 #[test]

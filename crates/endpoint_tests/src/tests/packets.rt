@@ -1,5 +1,5 @@
 // Packets by hand from the tables of M2-104-UM and M2-101-UM, taken by an endpoint of one block with two
-// MUIDs and one profile. The rows of `midi_commands_tests` tell of the rest.
+// MUIDs and one profile. The rows of `worked_rows` tell of the rest.
 ghost use Rattle.std.specs.Prelude.{◌≤◌};
 ghost use Rattle.std.specs.Option.{IfSome};
 ghost use Rattle.ump_grammar.specs.Ranges.{IsPacket};

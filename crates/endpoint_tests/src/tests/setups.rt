@@ -1,11 +1,10 @@
-// Each rule by the smallest front of a setup that breaks it, and values past each border. The rows of
-// `midi_commands_tests` tell of the replies.
+// Each rule by the smallest front of a setup that breaks it, and the most blocks and profiles. The rows of
+// `worked_rows` tell of values past each border, and of the replies.
 use super::{has_text, is_same, is_same_in};
 use endpoint_fixtures::DEMO_SETUP;
 use function_blocks::*;
 use small_types::U4;
 use std::alloc::{AllocError, Global};
-use std::process::Abort;
 use std::test::Fail;
 
 // The number of lines of `DEMO_SETUP`.
@@ -51,11 +50,6 @@ fn front(alloc: Global, count: usize) -> Result<(), SetupFault> {
     fault_of(setup_of(alloc, text_of(alloc, count, LINES, "")))
 }
 
-// What the whole setup is read as, if one line is replaced.
-fn with_line(alloc: Global, index: usize, line: &str) -> Result<(), SetupFault> {
-    fault_of(setup_of(alloc, text_of(alloc, LINES, index, line)))
-}
-
 // Each front lacks all that comes after it, so it breaks all later rules too: the first is reported.
 #[test]
 fn the_first_missing_key_is_told(rt: HostRuntime) {
@@ -72,163 +66,6 @@ fn the_first_missing_key_is_told(rt: HostRuntime) {
         is_same_in(&rt, &count, &front(rt.alloc(), count), &expected);
     }
     is_same(&rt, &front(rt.alloc(), 29), &Ok(()));
-}
-
-// Each row of a table has the index of a line of `DEMO_SETUP`, the number of the rule that is broken if
-// the line is replaced, or `kept`, or `syntax`, and the lines in its place, which a slash parts.
-fn lines_break(rt: &impl Abort, alloc: Global, table: &str) -> Result<(), Fail> {
-    for row in table.lines() {
-        let mut cells = row.splitn(3, ' ');
-        let (Some(index), Some(rule)) = (cells.next(), cells.next()) else {
-            return Err(Fail::new("a row has an index and a rule"));
-        };
-        let expected = match rule {
-            "kept" => Ok(()),
-            "syntax" => Err(SetupFault::Syntax),
-            number => Err(SetupFault::Field(number.parse::<u8>()?)),
-        };
-        let line = cells.next().unwrap_or("");
-        is_same_in(
-            rt,
-            &row,
-            &with_line(alloc, index.parse::<usize>()?, line),
-            &expected,
-        );
-    }
-    Ok(())
-}
-
-const ENDPOINT_LINES: &str = "\
-0 1 endpoint = 1
-1 2 name = \"\"
-1 2 name = 1
-1 kept name = \"123456789 123456789 123456789 123456789 123456789 123456789 123456789 123456789 123456789 12345678\"
-1 2 name = \"123456789 123456789 123456789 123456789 123456789 123456789 123456789 123456789 123456789 123456789\"
-2 3 id = \"\"
-2 kept id = \"123456789 123456789 123456789 123456789 12\"
-2 3 id = \"123456789 123456789 123456789 123456789 123\"
-2 3 id = \"SN\\u001F\"
-2 3 id = \"SN\\u007F\"
-2 kept id = \" ~\"
-2 3 id = \"\\u00E9\"
-3 4 manufacturer = [125, 0]
-3 4 manufacturer = [125, 0, 0, 0]
-3 4 manufacturer = [125, 0, 128]
-3 4 manufacturer = [125, 0, -1]
-3 4 manufacturer = 125
-4 kept family = 16383
-4 5 family = 16384
-4 5 family = -1
-4 5 family = 1.0
-5 6 model = 16384
-5 6 model = \"2\"
-6 7 revision = [1, 0, 0]
-6 7 revision = [1, 0, 0, 128]
-6 7 revision = [1, 0, 0, true]
-7 8 midi1 = 1
-7 kept midi1 = false
-8 8 midi2 = 1
-8 9 midi2 = false
-9 9 protocol = 0
-9 kept protocol = 1
-9 9 protocol = 3
-9 9 protocol = true
-10 10 static = 1
-10 kept static = false
-10 10 static = \"true\"";
-
-#[test]
-fn the_endpoint_past_each_border(rt: HostRuntime) -> Result<(), Fail> {
-    lines_break(&rt, rt.alloc(), ENDPOINT_LINES)
-}
-
-const BLOCK_LINES: &str = "\
-12 12 active = 1
-12 kept active = false
-13 13 name = \"\"
-13 kept name = \"123456789 123456789 123456789 123456789 123456789 123456789 123456789 123456789 123456789 1\"
-13 13 name = \"123456789 123456789 123456789 123456789 123456789 123456789 123456789 123456789 123456789 12\"
-14 14 hint = 4
-14 14 hint = -1
-15 kept midi1 = 2
-15 15 midi1 = 3
-16 16 direction = 0
-16 kept direction = 1
-16 16 direction = 4
-17 17 first = 16
-17 27 first = 15
-18 18 count = 0
-18 kept count = 16
-18 18 count = 17
-17 18 first = 15 / count = 2 / [[block.more]]
-17 19 first = 15 / count = 1 / [[block.more]]
-19 19 ci = 3
-19 25 ci = 0
-20 kept sysex8 = 255
-20 20 sysex8 = 256
-21 21 muids = []
-21 kept muids = [268435199]
-21 21 muids = [268435200]
-21 kept muids = [1, 2, 3, 4, 5, 6, 7, 8, 9, 10, 11, 12, 13, 14, 15, 16]
-21 21 muids = [1, 2, 3, 4, 5, 6, 7, 8, 9, 10, 11, 12, 13, 14, 15, 16, 17]
-21 21 muids = [1, \"2\"]
-21 23 muids = [300, 300]
-11 11 [block]
-11 25 [[blocks]]";
-
-#[test]
-fn blocks_past_each_border(rt: HostRuntime) -> Result<(), Fail> {
-    lines_break(&rt, rt.alloc(), BLOCK_LINES)
-}
-
-const PROFILE_LINES: &str = "\
-22 24 [profile]
-23 25 block = 1
-23 25 block = -1
-24 26 place = \"block\"
-24 26 place = 1
-24 26 place = \"\"
-24 kept place = \"function\"
-24 kept place = \"group\"
-25 27 group = 1
-25 27 group = -1
-26 kept channel = 15
-26 28 channel = 16
-27 29 id = [126, 0, 1, 1]
-27 29 id = [126, 0, 1, 1, 0, 0]
-27 29 id = [126, 0, 1, 1, 128]
-28 30 on = 1
-28 kept on = true
-28 kept on = true / unknown = 1
-25 27
-26 28
-24 29 place = \"group\" / group = 0 / [ignored]
-24 kept place = \"function\" / id = [1, 2, 3, 4, 5] / on = true / [ignored]";
-
-#[test]
-fn profiles_past_each_border(rt: HostRuntime) -> Result<(), Fail> {
-    lines_break(&rt, rt.alloc(), PROFILE_LINES)
-}
-
-// More tables after the last line: blocks, and profiles, of which the last is of an inactive block.
-const MORE_TABLES: &str = "\
-28 22 on = false / [[block]] / active = true / first = 0 / count = 16 / ci = 1 / muids = [5] / name = \"More\" / hint = 0 / midi1 = 0 / direction = 1 / sysex8 = 0
-28 kept on = false / [[block]] / active = true / first = 1 / count = 15 / ci = 1 / muids = [5] / name = \"More\" / hint = 0 / midi1 = 0 / direction = 1 / sysex8 = 0
-28 kept on = false / [[block]] / active = true / first = 0 / count = 1 / ci = 0 / muids = [] / name = \"More\" / hint = 0 / midi1 = 0 / direction = 1 / sysex8 = 0
-28 kept on = false / [[block]] / active = false / first = 0 / count = 1 / ci = 2 / muids = [5] / name = \"More\" / hint = 0 / midi1 = 0 / direction = 1 / sysex8 = 0
-28 23 on = false / [[block]] / active = false / first = 0 / count = 1 / ci = 0 / muids = [300] / name = \"More\" / hint = 0 / midi1 = 0 / direction = 1 / sysex8 = 0
-28 22 on = false / [[block]] / active = true / first = 0 / count = 1 / ci = 1 / muids = [300] / name = \"More\" / hint = 0 / midi1 = 0 / direction = 1 / sysex8 = 0
-28 19 on = false / [[block]] / active = true / first = 0 / count = 1 / ci = 3 / muids = [300] / name = \"More\" / hint = 0 / midi1 = 0 / direction = 1 / sysex8 = 0
-28 31 on = false / [[profile]] / block = 0 / id = [126, 0, 1, 1, 0] / channel = 2 / place = \"channel\" / group = 0 / on = true
-28 kept on = false / [[profile]] / block = 0 / id = [126, 0, 1, 1, 0] / channel = 3 / place = \"channel\" / group = 0 / on = true
-28 kept on = false / [[profile]] / block = 0 / id = [126, 0, 1, 1, 1] / channel = 2 / place = \"channel\" / group = 0 / on = true
-28 31 on = false / [[profile]] / block = 0 / id = [126, 0, 1, 1, 1] / channel = 2 / place = \"channel\" / group = 0 / on = true / [[profile]] / block = 0 / id = [126, 0, 1, 1, 0] / channel = 2 / place = \"channel\" / group = 0 / on = true
-28 kept on = false / [[profile]] / block = 0 / id = [126, 0, 1, 1, 0] / channel = 3 / place = \"channel\" / group = 0 / on = false
-28 kept on = false / [[block]] / active = false / first = 0 / count = 1 / ci = 2 / muids = [5] / name = \"More\" / hint = 0 / midi1 = 0 / direction = 1 / sysex8 = 0 / [[profile]] / block = 1 / id = [126, 0, 1, 1, 0] / place = \"function\" / on = true";
-
-#[test]
-fn blocks_and_profiles_together(rt: HostRuntime) -> Result<(), Fail> {
-    lines_break(&rt, rt.alloc(), MORE_TABLES)
 }
 
 // The endpoint of the setup and this many blocks without MIDI-CI, each
@@ -286,17 +123,6 @@ fn no_more_blocks_and_profiles_than_fit(rt: HostRuntime) -> Result<(), Fail> {
         &Err(SetupFault::Field(24)),
     );
     Ok(())
-}
-
-const TOML_LINES: &str = "\
-14 syntax hint =
-14 syntax hint = 3 / hint = 3
-14 syntax hint = 9223372036854775808
-14 14 hint = 9223372036854775807";
-
-#[test]
-fn lines_that_are_no_toml(rt: HostRuntime) -> Result<(), Fail> {
-    lines_break(&rt, rt.alloc(), TOML_LINES)
 }
 
 #[test]

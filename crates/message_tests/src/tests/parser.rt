@@ -1,5 +1,5 @@
 // Worked rows of the slow program, and the parser beside it on bytes that look random. The rows of
-// `midi_commands_tests` tell of the parser.
+// `worked_rows` tell of the parser.
 use super::{is_same, is_same_in};
 use midi1_bytes::slow::{SlowStep, slow_step};
 use midi1_bytes::*;

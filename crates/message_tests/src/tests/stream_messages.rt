@@ -1,9 +1,10 @@
-// The rows of the standard's layout by hand, worked rows, and each way in which a text can go wrong.
+// The rows of the standard's layout by hand, and each way in which a text can go wrong. The rows of
+// `worked_rows` tell of formats that a message may not have.
 ghost use Rattle.std.specs.Prelude.{◌≡◌, ◌<◌, ◌^◌};
 ghost use Rattle.ump_grammar.specs.Ranges.{IsPacket};
 ghost use Rattle.system_stream.specs.Layout.{FitsPlaces, IsStream};
 
-use super::{has_text, is_same, is_same_in};
+use super::{has_text, is_same_in};
 use std::process::Abort;
 use std::test::Fail;
 use system_stream::*;
@@ -189,43 +190,6 @@ fn packets_of_texts(rt: HostRuntime) {
     };
     let packet = stream(2, 0x012, 0x024D, 0x6169_6E00, 0, 0x0000_0021);
     assert!(rt; is_row([0xF812_024D, 0x6169_6E00, 0, 0x0000_0021], &packet, &block));
-}
-
-#[test]
-fn formats_and_unnamed_places(rt: HostRuntime) {
-    for status in [
-        0x000, 0x001, 0x002, 0x005, 0x006, 0x010, 0x011, 0x020, 0x021,
-    ] {
-        for format in 1..4u8 {
-            is_same(
-                &rt,
-                &read(&stream(format, status, 0, 0, 0, 0)),
-                &Err(BadFormat),
-            );
-        }
-    }
-    let other = Ok(StreamMessage::Other);
-    is_same(&rt, &read(&stream(0, 0x022, 0, 0, 0, 0)), &other);
-    is_same(&rt, &read(&stream(2, 0x3FF, 0, 0, 0, 0)), &other);
-    let full = stream(0, 0x000, 0x0102, 0xFFFF_FF03, u32::MAX, u32::MAX);
-    let discovery = StreamMessage::Discovery {
-        major: 1,
-        minor: 2,
-        filter: 3,
-    };
-    is_same(&rt, &read(&full), &Ok(discovery));
-    let full = stream(0, 0x001, 0, 0x00FF_FCFC, u32::MAX, u32::MAX);
-    let info = StreamMessage::Info {
-        major: 0,
-        minor: 0,
-        fixed: false,
-        blocks: 0,
-        midi2: false,
-        midi1: false,
-        receives_jr: false,
-        sends_jr: false,
-    };
-    is_same(&rt, &read(&full), &Ok(info));
 }
 
 // Whether packet `k` of the text has these words, or there is none.

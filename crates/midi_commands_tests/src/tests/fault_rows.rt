@@ -1,5 +1,6 @@
 // What stands after each read and each put that fails, and after each front of a recording.
-use super::{given_of, row_holds};
+use super::row_holds;
+use command_rows::given_of;
 use std::alloc::Global;
 use std::process::Abort;
 use std::test::Fail;
@@ -92,6 +93,11 @@ fn push_put(said: &mut String, place: &FaultPlace, put: &str) -> Result<(), Fail
     Ok(())
 }
 
+// How many bytes of input the lines of a row give.
+fn input_length(alloc: Global, given: &str) -> Result<usize, Fail> {
+    Ok(given_of(alloc, given).map_err(Fail::new)?.input.len())
+}
+
 // Each read fails in turn, the input coming byte by byte.
 fn reads_fail_in_turn(
     rt: &impl Abort,
@@ -99,7 +105,7 @@ fn reads_fail_in_turn(
     given: &str,
     steps: &[Step<'_>],
 ) -> Result<(), Fail> {
-    let length = given_of(alloc, given)?.input.len();
+    let length = input_length(alloc, given)?;
     for n in 0..length + 1 {
         let said = said_of(alloc, made_within(steps, n), "")?;
         let row = format!(in alloc;
@@ -142,11 +148,32 @@ pub(super) fn all_fail_in_turn(
     given: &str,
     steps: &str,
 ) -> Result<(), Fail> {
+    all_reads_fail_in_turn(rt, alloc, given, steps)?;
+    all_puts_fail_in_turn(rt, alloc, given, steps)
+}
+
+// Nothing fails, and then each read fails in turn.
+fn all_reads_fail_in_turn(
+    rt: &impl Abort,
+    alloc: Global,
+    given: &str,
+    steps: &str,
+) -> Result<(), Fail> {
     let steps = steps_of(alloc, steps)?;
     let said = said_of(alloc, &steps, "")?;
     let row = format!(in alloc; "{given}\nleaves Done{said}")?;
     row_holds(rt, alloc, row.as_str())?;
-    reads_fail_in_turn(rt, alloc, given, &steps)?;
+    reads_fail_in_turn(rt, alloc, given, &steps)
+}
+
+// Each put in each place fails in turn.
+fn all_puts_fail_in_turn(
+    rt: &impl Abort,
+    alloc: Global,
+    given: &str,
+    steps: &str,
+) -> Result<(), Fail> {
+    let steps = steps_of(alloc, steps)?;
     for place in PLACES {
         puts_fail_in_turn(rt, alloc, given, &steps, &place)?;
     }
@@ -157,7 +184,7 @@ pub(super) fn all_fail_in_turn(
 // if it ends with a packet, and otherwise refused at its last packet.
 fn fronts_hold(rt: &impl Abort, alloc: Global, given: &str, steps: &str) -> Result<(), Fail> {
     let steps = steps_of(alloc, steps)?;
-    let length = given_of(alloc, given)?.input.len();
+    let length = input_length(alloc, given)?;
     for n in 0..length + 1 {
         let made = made_within(&steps, n);
         let said = said_of(alloc, made, "")?;
@@ -260,8 +287,21 @@ fn each_read_and_put_fails_in_turn(rt: HostRuntime) -> Result<(), Fail> {
 }
 
 #[test]
-fn each_read_and_put_of_a_stream_fails_in_turn(rt: HostRuntime) -> Result<(), Fail> {
-    let alloc = rt.alloc();
-    all_fail_in_turn(&rt, alloc, RAISED, RAISED_STEPS)?;
-    all_fail_in_turn(&rt, alloc, RETURNED, RETURNED_STEPS)
+fn each_read_of_a_stream_that_is_raised_fails_in_turn(rt: HostRuntime) -> Result<(), Fail> {
+    all_reads_fail_in_turn(&rt, rt.alloc(), RAISED, RAISED_STEPS)
+}
+
+#[test]
+fn each_put_of_a_stream_that_is_raised_fails_in_turn(rt: HostRuntime) -> Result<(), Fail> {
+    all_puts_fail_in_turn(&rt, rt.alloc(), RAISED, RAISED_STEPS)
+}
+
+#[test]
+fn each_read_of_a_stream_that_comes_back_fails_in_turn(rt: HostRuntime) -> Result<(), Fail> {
+    all_reads_fail_in_turn(&rt, rt.alloc(), RETURNED, RETURNED_STEPS)
+}
+
+#[test]
+fn each_put_of_a_stream_that_comes_back_fails_in_turn(rt: HostRuntime) -> Result<(), Fail> {
+    all_puts_fail_in_turn(&rt, rt.alloc(), RETURNED, RETURNED_STEPS)
 }

@@ -106,7 +106,8 @@ fn all_is_written(
     Ok(())
 }
 
-// Each row has the objects that write to a full place, and the exit code and the last line after `Done`.
+// Each row has the objects that write to a full place, and the exit code and the last line of a run that hadn't
+// ended by a fault.
 const FULL_PLACES: &str = "\
 lanes 3 lane write failed
 output 4 output write failed
@@ -114,15 +115,19 @@ lanes,output 3 lane write failed
 notes 5
 output,notes 4";
 
-// A full place gives its own code and line if the run was done;
-// if it was refused both are unchanged.
+// A full place gives its own code and line whatever the status was, unless that is a fault: then both are
+// unchanged.
 #[test]
 fn a_full_place_is_told(rt: HostRuntime) -> Result<(), Fail> {
     for row in FULL_PLACES.lines() {
         let (full, told) = row.split_once(' ').unwrap_or((row, ""));
         let (code, line) = told.split_once(' ').unwrap_or((told, ""));
-        is_told(&rt, &rt, full, Status::Done, code.parse::<u8>()?, line)?;
-        is_told(&rt, &rt, full, REFUSED, 1, "")?;
+        for (status, own) in CODES {
+            match own {
+                2..=6 => is_told(&rt, &rt, full, status, own, "")?,
+                _ => is_told(&rt, &rt, full, status, code.parse::<u8>()?, line)?,
+            }
+        }
     }
     Ok(())
 }

@@ -1,5 +1,5 @@
 // Rows of the self test, and the two translators over the packets that it draws.
-use super::{Left, given_of, left_by};
+use command_rows::{Left, given_of, left_by};
 use midi_commands::Status;
 use midi_edge::MemLanes;
 use std::alloc::{AllocError, Global};
@@ -68,9 +68,9 @@ fn lane_of(alloc: Global, lanes: &MemLanes) -> Result<(usize, Vec<u8>), AllocErr
 
 // What a run with these words leaves of an input.
 fn run_over(rt: &impl Abort, alloc: Global, words: &str, input: Vec<u8>) -> Result<Left, Fail> {
-    let mut given = given_of(alloc, words)?;
+    let mut given = given_of(alloc, words).map_err(Fail::new)?;
     given.input = input;
-    let left = left_by(alloc, given)?;
+    let left = left_by(alloc, given).map_err(Fail::new)?;
     assert_eq!(rt; left.status, Status::Done);
     Ok(left)
 }

@@ -1,5 +1,5 @@
 // The words of the program: which are commands, and what their options do.
-use super::words_of;
+use command_rows::words_of;
 use midi_commands::{Status, run};
 use midi_edge::{FolderLanes, MemShelf, MemSink, MemSource};
 use std::fs;
@@ -8,7 +8,7 @@ use std::test::Fail;
 #[test]
 fn an_empty_folder_cannot_be_opened(rt: HostRuntime) -> Result<(), Fail> {
     let alloc = rt.alloc();
-    let words = words_of(alloc, "translate down --folder ''")?;
+    let words = words_of(alloc, "translate down --folder ''").map_err(Fail::new)?;
     let mut input = MemSource::new(Vec::new(alloc), Vec::new(alloc), Vec::new(alloc));
     let mut lanes = FolderLanes::new(rt.clone()?);
     let mut output = MemSink::new(alloc, 64, Vec::new(alloc))?;

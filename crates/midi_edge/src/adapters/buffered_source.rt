@@ -1,4 +1,4 @@
-// A source over a reader that is read ahead.
+// A source over a reader, with a buffer of bytes that are read ahead.
 ghost use Rattle.std.specs.Prelude.{◌≡◌, ◌≤◌, ◌<◌, None, IfOk, true, false, length};
 ghost use Rattle.std.specs.Io.Buffered.{reader_remaining};
 ghost use Rattle.std.specs.Io.KnownBytes.{ReadConsumes};
@@ -12,11 +12,12 @@ use small_types::NoMemory;
 use std::alloc::Global;
 use std::io::{BufReader, Read};
 
-// How many bytes are read at once: as many as a pipe of Linux holds.
+// The number of bytes that one read asks for: the capacity of a Linux pipe.
 const READ_AHEAD: usize = 65_536;
 
-/// A source over any reader, of which up to 65,536 bytes are read at once and held. A `take` may wait if
-/// none is held, unless the source was made by `of_file`. A read that a signal interrupts is tried again.
+/// A source over any reader. It reads up to 65,536 bytes at once into a buffer. A `take` may block if the
+/// buffer is empty, unless `of_file` made the source. If a signal interrupts a read, the source tries
+/// again.
 #[derive(Drop)]
 pub struct BufferedSource<R: Read> {
     reader: BufReader<R>,
@@ -25,7 +26,8 @@ pub struct BufferedSource<R: Read> {
 }
 
 impl<R: Read + Drop> BufferedSource<R> {
-    /// A source that gives what the reader gives. No fault is counted yet. `NoMemory` is free in its cause.
+    /// Creates a source that returns the reader's bytes. Its count of faults is 0. No clause says when
+    /// `NoMemory` is returned.
     pub fn new(alloc: Global, reader: R) -> Result<Self, NoMemory>
         ensures gives { IfOk result (λ source. to_be_given R.remaining source ≡ R.remaining reader) }
         ensures faults { IfOk result (λ source. ⟦<BufferedSource<R> as Source>⟧.faults source ≡ 0) }
@@ -34,8 +36,8 @@ impl<R: Read + Drop> BufferedSource<R> {
         BufferedSource::over(alloc, reader, false)
     }
 
-    /// A source that gives what the reader of a file gives, which never waits. No fault is counted yet.
-    /// `NoMemory` is free in its cause.
+    /// Creates a source that returns the bytes of a file's reader. Its `may_wait` is always `false`. Its
+    /// count of faults is 0. No clause says when `NoMemory` is returned.
     pub fn of_file(alloc: Global, reader: R) -> Result<Self, NoMemory>
         ensures gives { IfOk result (λ source. to_be_given R.remaining source ≡ R.remaining reader) }
         ensures faults { IfOk result (λ source. ⟦<BufferedSource<R> as Source>⟧.faults source ≡ 0) }
@@ -44,7 +46,7 @@ impl<R: Read + Drop> BufferedSource<R> {
         BufferedSource::over(alloc, reader, true)
     }
 
-    // A source over a reader of which a read waits, or not.
+    // Creates a source over a reader. `is_file` says that no read blocks.
     fn over(alloc: Global, reader: R, is_file: bool) -> Result<Self, NoMemory>
         ensures gives { IfOk result (λ source. to_be_given R.remaining source ≡ R.remaining reader) }
         ensures faults { IfOk result (λ source. ⟦<BufferedSource<R> as Source>⟧.faults source ≡ 0) }
@@ -60,7 +62,7 @@ impl<R: Read + Drop> BufferedSource<R> {
         }
     }
 
-    /// How often it has failed, up to the last `u64`.
+    /// Returns the number of failed reads, saturating at `u64::MAX`.
     pub fn faults(&self) -> u64
         ensures { result ≡ ⟦<BufferedSource<R> as Source>⟧.faults self.now }
     {
@@ -87,7 +89,7 @@ impl<R: Read + Drop> Source for BufferedSource<R> {
         counted(answer, &mut self.faults)
     }
 
-    /// Whether no byte is held and the source isn't a file's.
+    /// Returns whether the buffer is empty and the source isn't a file's.
     fn may_wait(&self) -> bool
         ensures { result ≡ is_waiting self.now }
     {

@@ -9,11 +9,12 @@ use std::fs;
 use std::io::{self, Read};
 use std::rt::Files;
 
-/// A shelf of files, each named by its path. An empty path is no file, so fetching it fails, as does fetching
-/// a folder. No more than the limit is read, so `fetch` ends even at a file that has no end; at a limit of 0
-/// the file is opened, and nothing read. `into` grows as needed; if there is no memory to open, to read or
-/// to grow, the answer is `NoMemory`. A read that a signal interrupts is tried again. What was read before an
-/// `Err` stays added.
+/// A shelf of files, each named by its path. `fetch` fails for an empty path and for a folder.
+///
+/// `fetch` reads no more than the limit, so it ends even if the file has no end. With a limit of 0, it
+/// opens the file and reads nothing. `into` grows as needed. `fetch` returns `NoMemory` if there is too
+/// little memory to open the file, to read it, or to grow `into`. If a signal interrupts a read, `fetch`
+/// tries again. Bytes that it read before an `Err` remain in `into`.
 #[derive(Drop)]
 pub struct FileShelf<R: Files> {
     rt: R,
@@ -22,7 +23,8 @@ pub struct FileShelf<R: Files> {
 }
 
 impl<R: Files> FileShelf<R> {
-    /// A shelf that was asked for nothing yet, and takes no memory. No fault is counted.
+    /// Creates a shelf, without allocating memory. Nothing has been fetched yet, and the count of faults is
+    /// 0.
     pub fn new(rt: R) -> Self
         ensures asked { ⟦<FileShelf<R> as Shelf>⟧.asked result ≡ None }
         ensures texts { ⟦<FileShelf<R> as Shelf>⟧.texts result ≡ None }
@@ -35,7 +37,7 @@ impl<R: Files> FileShelf<R> {
         }
     }
 
-    /// How often it has failed, up to the last `u64`.
+    /// Returns the number of failed calls, saturating at `u64::MAX`.
     pub fn faults(&self) -> u64
         ensures { result ≡ ⟦<FileShelf<R> as Shelf>⟧.faults self.now }
     {
@@ -43,7 +45,7 @@ impl<R: Files> FileShelf<R> {
     }
 }
 
-// Adds the first bytes that a reader gives, at most this many.
+// Appends the first bytes from a reader, at most `limit`.
 fn add_front<F: Read + Drop>(reader: F, limit: usize, into: &mut Vec<u8>) -> io::Result<()>
     ensures front { OnOk result
         (IfSome (F.remaining reader) (λ text. into.new.items ≡ into.old.items ++ take limit text)) }
@@ -53,7 +55,7 @@ fn add_front<F: Read + Drop>(reader: F, limit: usize, into: &mut Vec<u8>) -> io:
     Ok(())
 }
 
-// Adds the first bytes of a file, at most this many. No file has an empty path.
+// Appends the first bytes of a file, at most `limit`. No file has an empty path.
 fn read_front<R: Files>(
     rt: &R,
     path: &str,

@@ -10,7 +10,8 @@ use outside::{Failed, Source};
 use std::io;
 use std::io::{ErrorKind, Read};
 
-/// A source over any reader, of which any read may wait. A read that a signal interrupts is tried again.
+/// A source over any reader, without a buffer. Its `may_wait` is always `true`. If a signal interrupts a
+/// read, the source tries again.
 #[derive(Drop)]
 pub struct ReadSource<R: Read> {
     reader: R,
@@ -18,7 +19,7 @@ pub struct ReadSource<R: Read> {
 }
 
 impl<R: Read> ReadSource<R> {
-    /// A source that gives what the reader gives. No fault is counted yet.
+    /// Creates a source that returns the reader's bytes. Its count of faults is 0.
     pub fn new(reader: R) -> Self
         ensures gives { to_come R.remaining result ≡ R.remaining reader }
         ensures faults { ⟦<ReadSource<R> as Source>⟧.faults result ≡ 0 }
@@ -26,7 +27,7 @@ impl<R: Read> ReadSource<R> {
         ReadSource { reader, faults: 0 }
     }
 
-    /// How often it has failed, up to the last `u64`.
+    /// Returns the number of failed reads, saturating at `u64::MAX`.
     pub fn faults(&self) -> u64
         ensures { result ≡ ⟦<ReadSource<R> as Source>⟧.faults self.now }
     {
@@ -53,7 +54,7 @@ impl<R: Read> Source for ReadSource<R> {
     }
 }
 
-// One read, tried again if a signal interrupts it.
+// Reads once. If a signal interrupts the read, tries again.
 pub(super) fn read_once<R: Read>(reader: &mut R, buf: &mut [u8]) -> io::Result<usize>
     ensures bound { ReadsAtMost result buf.new }
     ensures bytes { ReadConsumes (R.remaining reader.old) (R.remaining reader.new) result buf.new }

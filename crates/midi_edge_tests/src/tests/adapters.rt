@@ -175,6 +175,53 @@ fn what_is_gathered_is_written_out_before_its_time(rt: HostRuntime) {
     is_same(&rt, &sink.faults(), &0);
 }
 
+// What the calls answer once a piece can't be written out before its time, and how many bytes are written.
+fn stays_failed(sink: &mut WriteSink<Scripted<'_>>, log: &Log) -> bool {
+    let one = sink.put(b"one ");
+    sink.write_out();
+    let untold = sink.faults();
+    let two = sink.put(b"two");
+    let told = sink.faults();
+    sink.write_out();
+    let three = sink.put(&[b'x'; 9000]);
+    let flushed = sink.flush();
+    let [_, _, moved] = log.counts();
+    [one, two, three, flushed] == [Ok(()), Err(Failed), Err(Failed), Err(Failed)]
+        && [untold, told, sink.faults()] == [0, 1, 3]
+        && moved == 4
+}
+
+// A later write is made, and loses nothing of what was accepted, but the fault is told all the same.
+#[test]
+fn a_put_fails_after_nothing_could_be_written_out(rt: HostRuntime) {
+    for fault in [Step::Moves(0), Step::Fails(ErrorKind::BrokenPipe)] {
+        let steps = [Step::Moves(1), fault];
+        let log = Log::new();
+        let mut sink = WriteSink::new(Scripted::new(&steps, b"one ", &log));
+        assert!(rt; stays_failed(&mut sink, &log));
+    }
+}
+
+// What the calls answer if a signal interrupts what is written out before its time.
+fn goes_on_after_a_signal(sink: &mut WriteSink<Scripted<'_>>) -> [Result<(), Failed>; 3] {
+    let one = sink.put(b"one ");
+    sink.write_out();
+    let two = sink.put(b"two");
+    [one, two, sink.flush()]
+}
+
+#[test]
+fn a_put_goes_on_after_a_signal(rt: HostRuntime) {
+    let signal = Step::Fails(ErrorKind::Interrupted);
+    let steps = [signal, Step::Moves(1), signal];
+    let log = Log::new();
+    let mut sink = WriteSink::new(Scripted::new(&steps, b"one two", &log));
+    let answers = goes_on_after_a_signal(&mut sink);
+    assert!(rt; answers == [Ok(()); 3]);
+    assert!(rt; log.counts() == [5, 2, 7]);
+    is_same(&rt, &sink.faults(), &0);
+}
+
 // Whether a source that fails so tells it at once.
 fn source_tells(kind: ErrorKind) -> bool {
     let steps = [Step::Fails(kind)];

@@ -71,6 +71,50 @@ fn lanes_are_gathered_into_files(rt: HostRuntime) -> Result<(), Fail> {
     Ok(())
 }
 
+// What the calls answer if the file of lane 3 takes no byte, once all is written out before its time, and what
+// the file of lane 15 holds.
+fn fails_at_every_lane<'a>(
+    rt: &'a HostRuntime,
+    lanes: &mut FolderLanes<&'a HostRuntime>,
+    folder: &str,
+) -> bool
+    requires { ⟦<FolderLanes<&'a HostRuntime> as Lanes>⟧.folder lanes.old ≡ None }
+{
+    let Ok(()) = lanes.begin(folder) else {
+        return false;
+    };
+    let puts = [
+        lanes.put(U4::low_bits(15), b"fifteen"),
+        lanes.put(U4::low_bits(3), b"three"),
+    ];
+    lanes.write_out();
+    let refused = [
+        lanes.put(U4::low_bits(15), b"more"),
+        lanes.put(U4::low_bits(0), b"none"),
+        lanes.flush(),
+    ];
+    puts == [Ok(()); 2]
+        && refused == [Err(Failed); 3]
+        && lanes.faults() == 3
+        && holds(rt, folder, NAMES[15], b"fifteen")
+}
+
+fn fails_at_every_lane_anew(rt: &HostRuntime, folder: &str) -> bool {
+    let mut lanes = FolderLanes::new(rt);
+    fails_at_every_lane(rt, &mut lanes, folder)
+}
+
+#[test]
+fn a_lane_that_cannot_be_written_out_fails_every_lane(rt: HostRuntime) -> Result<(), Fail> {
+    let folder = new_folder(&rt, "early")?;
+    let name = format!(in rt.alloc(); "{folder}/group-03.midi1")?;
+    symlink(&rt, "/dev/full", name.as_str())?;
+    let failed = fails_at_every_lane_anew(&rt, folder.as_str());
+    fs::remove_dir_all(&rt, folder.as_str())?;
+    assert!(rt; failed);
+    Ok(())
+}
+
 // What new lanes answer in this folder, and their count of faults.
 fn begins(rt: &HostRuntime, folder: &str) -> (Result<(), OpenFault>, u64) {
     let mut lanes = FolderLanes::new(rt);

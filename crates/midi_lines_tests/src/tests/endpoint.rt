@@ -1,49 +1,7 @@
-// The lines of the command `endpoint`.
+// The lines of the command `endpoint` at its end. The rows of `worked_rows` tell of the outcomes.
 use function_blocks::{Place, Profile};
-use midi_lines::{OutcomeName, block_line, endpoint_line, profile_line, protocol_line};
+use midi_lines::{block_line, profile_line, protocol_line};
 use voice_messages::{U4, U7};
-
-// Whether the line of what became of an exclusive or a stream packet is the text.
-fn is_told(offset: u64, group: Option<u32>, name: OutcomeName, text: &str) -> bool {
-    let group = group.map(U4::low_bits);
-    endpoint_line(offset, group, name).as_slice() == text.as_bytes()
-}
-
-#[test]
-fn endpoint_lines(rt: HostRuntime) {
-    for (offset, group, name, text) in [
-        (0, None, OutcomeName::Answered, "0 - answered\n"),
-        (0, Some(0), OutcomeName::NotCi, "0 0 not-ci\n"),
-        (8, Some(1), OutcomeName::Short, "8 1 short\n"),
-        (16, Some(2), OutcomeName::BadAddress, "16 2 bad-address\n"),
-        (
-            24,
-            Some(3),
-            OutcomeName::ReservedMuid,
-            "24 3 reserved-muid\n",
-        ),
-        (32, Some(4), OutcomeName::NoBlock, "32 4 no-block\n"),
-        (40, Some(5), OutcomeName::Silent, "40 5 silent\n"),
-        (48, Some(6), OutcomeName::Collision, "48 6 collision\n"),
-        (56, Some(7), OutcomeName::OldVersion, "56 7 old-version\n"),
-        (64, Some(8), OutcomeName::NotOurs, "64 8 not-ours\n"),
-        (72, Some(9), OutcomeName::Moved, "72 9 moved\n"),
-        (80, Some(10), OutcomeName::Report, "80 10 report\n"),
-        (88, Some(11), OutcomeName::Broadcast, "88 11 broadcast\n"),
-        (96, Some(12), OutcomeName::Answered, "96 12 answered\n"),
-        (104, Some(13), OutcomeName::Passed, "104 13 passed\n"),
-        (
-            18446744073709551615,
-            Some(15),
-            OutcomeName::Nak,
-            "18446744073709551615 15 nak\n",
-        ),
-        (112, None, OutcomeName::NoAnswer, "112 - no-answer\n"),
-        (128, None, OutcomeName::BadFormat, "128 - bad-format\n"),
-    ] {
-        assert!(rt; is_told(offset, group, name, text), "{text}");
-    }
-}
 
 #[test]
 fn lines_of_the_protocol(rt: HostRuntime) {

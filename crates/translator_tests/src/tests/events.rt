@@ -1,4 +1,4 @@
-// Reading on after a failed read, and what is told to people. The rows of `midi_commands_tests` tell of the
+// Reading on after a failed read, and what is told to people. The rows of `worked_rows` tell of the
 // rest.
 use super::is_same;
 use midi_edge::MemSource;

@@ -1,4 +1,4 @@
-// Bytes that come after one that is refused. The rows of `midi_commands_tests` tell of the rest.
+// Bytes that come after one that is refused. The rows of `worked_rows` tell of the rest.
 use super::is_same;
 use small_types::U4;
 use std::alloc::Global;

@@ -1,4 +1,4 @@
-// What ends a selection, and what leaves it. The rows of `midi_commands_tests` tell of the other control
+// What ends a selection, and what leaves it. The rows of `worked_rows` tell of the other control
 // changes.
 use super::is_same_in;
 use param_collector::*;

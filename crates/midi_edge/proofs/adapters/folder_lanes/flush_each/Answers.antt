@@ -11,10 +11,10 @@ loop-sink-init g c = (KeepsEach-refl g.W.Write.contents c.args.sinks.now, search
 
 pub loop-sink-preserved : goal.loop-sink-preserved
 loop-sink-preserved g c =
-    let e = c.flush-answer.ensures in (
+    let e = c.flush_anyway-answer.ensures in (
       KeepsEach-set g.W.Write.contents _ _ _ _ _ c.loop-sink.invariant.0 e.bytes,
       grind (arith, common_steps),
-      TriesFirst-more _ _ _ _ _ c.flush-answer.result c.loop-sink.invariant.2 e.written e.cause.rose,
+      TriesFirst-more _ _ _ _ _ c.flush_anyway-answer.result c.loop-sink.invariant.2 e.written e.cause.rose,
     )
 
 pub returns-clause-written : goal.returns-clause-written
