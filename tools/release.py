@@ -137,6 +137,15 @@ def write(path, parts):
         it.write("\n\n".join(parts) + "\n")
 
 
+def add_wheel(stage):
+    """Puts the package for Python, with the shared library in it, into a folder as a wheel."""
+    library = f"{stage}/lib/liblarboardyuzu.so.{built.version()}"
+    if os.path.isfile(library):
+        os.makedirs(f"{stage}/python")
+        words = [sys.executable, f"{TOP}/bindings/python/wheels.py", f"{stage}/python", library]
+        subprocess.run(words, env={**os.environ, "SOURCE_DATE_EPOCH": str(epoch())}, stdout=subprocess.DEVNULL, check=True)
+
+
 def fill(stage):
     """Puts all that is packed into a folder."""
     for source, target in [*((f"{TOP}/{it}", it) for it in packed_files()), *((it.at(), it.name) for it in built.built())]:
@@ -146,6 +155,7 @@ def fill(stage):
     os.symlink("../../docs/larboardyuzu.1", f"{stage}/man/man1/larboardyuzu.1")
     write(f"{stage}/NOTICES.txt", notices())
     write(f"{stage}/RELEASE.txt", about())
+    add_wheel(stage)
     write(f"{stage}/{bill.NAME}", [bill.text()])
     shared = f"liblarboardyuzu.so.{built.version()}"
     if os.path.isfile(f"{stage}/lib/{shared}"):

@@ -49,7 +49,7 @@ def ratio_down(groups):
 
 
 def ratio_up():
-    data = bytes(random.choice((0x90, 0xB0, 0xE0)) if at % 3 == 0 else random.getrandbits(7) & 0x3F for at in range(3 * COUNT))
+    data = b"".join(bytes((*random.choice(((0x90, 0x3C), (0xB0, 0x07), (0xE0, 0x00))), random.getrandbits(7))) for _ in range(COUNT))
     with Up(0, 64) as up:
         alone = best(by_c("up_bytes", up._raw, data, len(data), (ctypes.c_uint32 * (4 * COUNT))(), _interface.Outcome))
         return best(lambda: up.translate(data)) / alone
