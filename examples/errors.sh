@@ -1,5 +1,6 @@
 # shellcheck shell=bash
-# An input for each row of docs/errors.md, for bash: `. examples/errors.sh`, at the top of the repository or of a release. Then
+# An input for each row of docs/errors.md, and for each rule of docs/setup.md. In bash, at the top of the repository or of a release:
+# `. examples/errors.sh`. Then
 #
 #   shows code 3              ends with this exit code
 #   shows refused HighBit     is refused for this reason

@@ -1,10 +1,11 @@
 #!/usr/bin/env python3
 """check.py PROGRAM [PAGE..]: runs what the pages say with this program, and compares.
 
-With pages, it runs the `sh` blocks of these alone. With none it runs those of README.md, CONTRIBUTING.md and docs/*.md, the input of each row
-of docs/errors.md, which is in examples/errors.sh, and the examples of docs/help/, checks the man page, the completions, the script
-./larboardyuzu and its helpers, and pastes the blocks into interactive shells. All of it happens in copies of this repository without its sources, so that
-nothing is built. What needs a tool that isn't here is left out, with a line. The exit code is 1 if anything differs."""
+With pages, it runs the `sh` blocks of these alone. With none it runs those of README.md, CONTRIBUTING.md and docs/*.md, the input in
+examples/errors.sh for each row of docs/errors.md and each rule of docs/setup.md, and the examples of docs/help/, checks the man page, the
+completions, the script ./larboardyuzu and its helpers, and pastes the blocks into interactive shells. All of it happens in copies of this
+repository without its sources, so that nothing is built. What needs a tool that isn't here is left out, with a line. The exit code is 1 if
+anything differs."""
 import os
 import re
 import shlex
@@ -152,9 +153,13 @@ def key_of(row):
         return f"code {row['Exit code, last line'].split()[0]}"
     if "What is refused" in row:
         return f"refused {code_in(row['Last line']).split()[1]}"
-    if "Rule" in row:
-        return f"rule {row['N']}"
     return f"cause {re.split('[:,]', row['Usual cause'].replace('`', ''))[0]}" if "What is printed" in row else ""
+
+
+def rules_of(page):
+    """The numbers of the rules that a page on setups has: in a column of rules, in a row of their own, or in a sentence."""
+    cells = [row["N"] if "N" in row else row["Rule"] for row in rows_of(page) if "Rule" in row]
+    return {int(it) for it in re.findall(r"\d+", " ".join(cells)) + re.findall(r"\(rule (\d+)\)", page.replace("\n", " "))}
 
 
 def difference(key, row, said, status):
@@ -174,12 +179,13 @@ def difference(key, row, said, status):
 
 
 def check_errors(program):
-    """Runs the input of each row of docs/errors.md, and yields what differs from its last line and exit code."""
+    """Runs the input of each row of docs/errors.md and each rule of docs/setup.md, and yields what differs from its last line and exit code."""
     page = "docs/errors.md"
     rows = {key: row for row in rows_of(read(page)) if (key := key_of(row))}
+    rows |= {f"rule {it}": {} for it in sorted(rules_of(read("docs/setup.md")))}
     inputs = set(re.findall(r"(?m)^    '([^']+)'\)", read("examples/errors.sh")))
-    yield from (f"{page}: no row for the input '{it}' of examples/errors.sh" for it in sorted(inputs - set(rows)))
-    yield from (f"{page}: examples/errors.sh has no input for the row '{it}'" for it in sorted(set(rows) - inputs))
+    yield from (f"{page} and docs/setup.md: no row for the input '{it}' of examples/errors.sh" for it in sorted(inputs - set(rows)))
+    yield from (f"{page} and docs/setup.md: examples/errors.sh has no input for the row '{it}'" for it in sorted(set(rows) - inputs))
     if shutil.which("rt", path="/usr/bin:/bin") and rows.pop("code 127", None):
         print(f"{page}: the row of 127 is left out, since rt is in /usr/bin here", flush=True)
     with Room(program) as room:
@@ -199,7 +205,7 @@ def check_errors(program):
 
 
 def missing_rows(page, keys):
-    """What the program can end with, and has no row."""
+    """What the program can end with, and has no row and is no rule."""
     exits = read("crates/midi_commands/src/status.rt").split("fn exit_code")[1].split("fn ")[0]
     wanted = {f"code {it}" for it in re.findall(r"=> (\d+),", exits)}
     wanted |= {f"refused {it}" for it in re.findall(r'Reason::\w+ => "(\w+)"', read("crates/midi_commands/src/last_line.rt"))}

@@ -1,6 +1,6 @@
 #!/usr/bin/env python3
 """check_setups.py PROGRAM: tries what pages use for a setup: check_setup of examples/helpers.sh, in each shell that the pages name, and
-tools/draw_muids.py. What is expected comes from the rules of a setup in docs/errors.md. tools/check.py calls this. The exit code is 1 if
+tools/draw_muids.py. What is expected comes from the rules in docs/setup.md. tools/check.py calls this. The exit code is 1 if
 anything differs."""
 import os
 import re
