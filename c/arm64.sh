@@ -22,10 +22,9 @@ ar=${CC%gcc}ar
 include=(-I"$top/include" -I"$top/examples/c")
 strict=(-Wall -Wextra -Wpedantic -Wconversion -Wshadow -Werror)
 rm -rf "$out/objects" "$out/liblarboardyuzu.a"
-mkdir -p "$out/objects"
-(cd "$out/objects" && "$ar" x "$proved")
+CC="$CC" "$here/one_object.sh" "$out/objects" "$proved"
 "$CC" -std=c11 -O2 -fPIC "${strict[@]}" "${include[@]}" -c "$here/heap.c" -o "$out/objects/heap.o"
-"$ar" rcs "$out/liblarboardyuzu.a" "$out"/objects/*.o
+"$ar" rcs "$out/liblarboardyuzu.a" "$out/objects/hidden.o" "$out/objects/heap.o"
 
 build() { # NAME SOURCE..: a program that holds its C library
     local name=$1
@@ -44,10 +43,10 @@ for name in blocks resets; do
     build "test-$name" "$here/tests/$name.c" "$here/tests/subjects.c"
 done
 "$CC" -std=gnu11 -O2 -ffreestanding -fno-builtin -fno-stack-protector -Wall -Wextra -Werror "${include[@]}" -static -nostdlib \
-    "$here/tests/bare.c" "$top/examples/c/own_heap.c" "$out/liblarboardyuzu.a" -o "$out/bare"
+    "$here/tests/bare.c" "$here/tests/no_libc.c" "$top/examples/c/own_heap.c" "$out/liblarboardyuzu.a" -o "$out/bare"
 echo "arm64: linked"
 if command -v qemu-system-aarch64 >/dev/null; then
-    "$here/bare_arm64.sh" "$out/liblarboardyuzu.a" "$out"
+    "$here/bare_arm64.sh" "$out/liblarboardyuzu.a" "$out/bare-arm64"
 else
     echo "arm64: not run without an operating system, there is no qemu-system-aarch64"
 fi

@@ -56,6 +56,10 @@
 #include <stddef.h>
 #include <stdint.h>
 
+#if UINTPTR_MAX != UINT64_MAX
+#error "larboardyuzu needs a 64-bit processor: its archives and structs are for 64-bit x86 and 64-bit ARM"
+#endif
+
 #ifdef __cplusplus
 extern "C" {
 #endif
@@ -67,6 +71,10 @@ extern "C" {
 
 /* Returns the version of the library that is linked. */
 uint32_t larboardyuzu_version(void);
+
+/* Whether the linked library has the binary interface of this header. A program or plugin that may meet
+ * another version of the shared library calls it once, before any other call. */
+#define LARBOARDYUZU_IS_COMPATIBLE() (larboardyuzu_version() >> 8 == LARBOARDYUZU_VERSION >> 8)
 
 enum larboardyuzu_status {
     LARBOARDYUZU_DONE = 0,
