@@ -69,6 +69,8 @@ for name in down block up endpoint; do
 done
 "$CC" -std=c11 $flags "$top/examples/c/fixed_block.c" "$top/examples/c/own_heap.c" "$lib" -o "$out/fixed_block"
 compares fixed_block.c "$expected/fixed_block" "$out/fixed_block"
+"$CC" -std=c11 $flags "$top/examples/c/panel.c" "$lib" -o "$out/panel"
+compares panel.c "$expected/panel" "$out/panel" "$top/examples/endpoint.toml"
 for name in device daemon; do
     "$CC" -std=c11 $flags "$top/examples/c/$name.c" "$lib" -o "$out/$name"
 done
