@@ -37,6 +37,15 @@ fi
 if has python3; then
     python3 "$top/bindings/compare.py" "$top/include/larboardyuzu.h"
 fi
+if has python3; then
+    CC="$CC" python3 "$here/abi.py" check "$top/include/larboardyuzu.h" "$here/abi-0.3.txt"
+    if has abidw; then
+        CC="$CC" python3 "$here/abi.py" describe "$top/include/larboardyuzu.h" "$out/calls.so"
+        abidw "$out/calls.so" --out-file "$out/calls.abi"
+        [ "$(grep -c "class-decl name='larboardyuzu_" "$out/calls.abi")" = "$(grep -c '^struct ' "$here/abi-0.3.txt")" ] \
+            || { echo "abi: abidw doesn't see each struct"; exit 1; }
+    fi
+fi
 for header in larboardyuzu.h larboardyuzu_heap.h; do
     for language in c11 c99; do
         "$CC" -std=$language $STRICT -fsyntax-only -x c "$top/include/$header"

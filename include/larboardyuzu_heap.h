@@ -17,7 +17,7 @@
 extern "C" {
 #endif
 
-/* Hides the three names in a shared library that is linked with the archive, even if the program defines them. */
+/* Hides the three names in a shared library that is linked with the archive, whoever defines them. */
 #if defined(__GNUC__)
 #define LARBOARDYUZU_HEAP __attribute__((visibility("hidden")))
 #else

@@ -72,7 +72,8 @@ int main(void)
 {
     larboardyuzu_given all;
 
-    CHECK(!larboardyuzu_heap_alloc(SIZE_MAX, 8).is_given && !larboardyuzu_heap_alloc(1024 * 1024, 8).is_given);
+    CHECK(!larboardyuzu_heap_alloc(SIZE_MAX, 8).is_given);
+    CHECK(!larboardyuzu_heap_alloc(1024 * 1024, 8).is_given);
     all = larboardyuzu_heap_alloc(1024 * 1024 - 16, 8);
     CHECK(all.is_given && !larboardyuzu_heap_alloc(1, 1).is_given);
     larboardyuzu_heap_dealloc(all.at);

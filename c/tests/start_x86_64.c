@@ -1,6 +1,6 @@
 /* Starts bare.c and interrupts.c on a 64-bit x86 without an operating system: a board `pc` of
- * qemu-system-x86_64, which enters by the note of a PVH kernel in 32-bit mode. It does what the library needs:
- * 64-bit mode, and the vector registers on. For interrupts.c it steps the processor: an exception after each
+ * qemu-system-x86_64, which enters by the note of a PVH kernel in 32-bit mode. It does what the library
+ * needs: 64-bit mode, and the vector registers on. For interrupts.c it steps the processor: an exception after each
  * instruction, whose handler keeps all registers. With OWN_STACK the handler has a stack of its own (IST);
  * without it, the processor and the handler write below the stack pointer of what they interrupt. */
 #include <stddef.h>
@@ -116,7 +116,8 @@ static _Alignas(16) uint32_t task[26];
 
 static void set_gate(size_t number, uint64_t to, uint64_t stack)
 {
-    gates[number].low = (to & 0xFFFF) | 8 << 16 | stack << 32 | UINT64_C(0x8E) << 40 | (to >> 16 & 0xFFFF) << 48;
+    gates[number].low =
+        (to & 0xFFFF) | 8 << 16 | stack << 32 | UINT64_C(0x8E) << 40 | (to >> 16 & 0xFFFF) << 48;
     gates[number].high = to >> 32;
 }
 
@@ -137,7 +138,8 @@ void start(void)
 #endif
     task[9] = (uint32_t)top; /* the first stack of the table of stacks */
     task[10] = (uint32_t)(top >> 32);
-    task_segment[0] = (sizeof task - 1) | (at & 0xFFFFFF) << 16 | UINT64_C(0x89) << 40 | (at >> 24 & 0xFF) << 56;
+    task_segment[0] =
+        (sizeof task - 1) | (at & 0xFFFFFF) << 16 | UINT64_C(0x89) << 40 | (at >> 24 & 0xFF) << 56;
     task_segment[1] = at >> 32;
     __asm__ volatile("lidt %0\n    ltr %1" : : "m"(gates_at), "r"((uint16_t)24) : "memory");
     bare_main();
