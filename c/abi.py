@@ -2,10 +2,8 @@
 """abi.py check HEADER RECORD: compares the binary interface of the C header with the one that the file RECORD has of the last version: each call
 with its arguments, each number, and the size of each struct with the place and size of each field, as the C compiler (CC) lays it out. It
 fails if one of them changed or is gone, and the header has the record's major and minor number still; more of them may come.
-abi.py print HEADER: prints the record of this header, for a version with another number.
-abi.py describe HEADER FILE.so: builds a shared library of the same calls, which do nothing, with debug information, for abidw and abidiff."""
+abi.py print HEADER: prints the record of this header, for a version with another number."""
 import os
-import re
 import subprocess
 import sys
 import tempfile
@@ -50,35 +48,18 @@ def check(header, path, record):
     return 1 if told and record[0] == found[0] else 0
 
 
-def describe(header, path, target):
-    """A shared library in which each call does nothing."""
-    with open(path, encoding="utf-8") as it:
-        text = re.sub(r"/\*.*?\*/", "", it.read(), flags=re.S)
-    bodies = []
-    for result, name, arguments in re.findall(r"^(\w+) (larboardyuzu_\w+)\(([^)]*)\);", text, re.M):
-        uses = "".join(f" (void){it};" for it, _ in header.calls[name][1])
-        bodies.append(f"{result} {name}({arguments}) {{{uses}{'' if result == 'void' else ' return 0;'} }}")
-    with tempfile.TemporaryDirectory() as room:
-        with open(f"{room}/calls.c", "w", encoding="utf-8") as it:
-            it.write(f'#include "{os.path.abspath(path)}"\n' + "\n".join(bodies) + "\n")
-        subprocess.run([*compiler(), "-std=c11", "-g", "-shared", "-fPIC", f"{room}/calls.c", "-o", target], check=True)
-    return 0
-
-
 def main(action, path, *more):
     with open(path, encoding="utf-8") as it:
         header = interface.Header(it.read())
     if action == "print":
         print(*record_of(header, path), sep="\n")
         return 0
-    if action == "describe":
-        return describe(header, path, more[0])
     with open(more[0], encoding="utf-8") as it:
         return check(header, path, it.read().splitlines())
 
 
 if __name__ == "__main__":
-    if (sys.argv[1:2], len(sys.argv)) not in ((["check"], 4), (["print"], 3), (["describe"], 4)):
+    if (sys.argv[1:2], len(sys.argv)) not in ((["check"], 4), (["print"], 3)):
         print(__doc__, file=sys.stderr)
         sys.exit(2)
     sys.exit(main(*sys.argv[1:]))

@@ -25,7 +25,11 @@ ar=${CC%gcc}ar
 include=(-I"$top/include" -I"$top/examples/c")
 strict=(-Wall -Wextra -Wpedantic -Wconversion -Wshadow -Werror)
 rm -rf "$out/objects" "$out/liblarboardyuzu.a"
-CC="$CC" "$here/one_object.sh" "$out/objects" "$proved"
+if command -v python3 >/dev/null; then
+    python3 "$here/debug_info.py" "$top/include/larboardyuzu.h"
+fi >"$out/objects/debug_info.s"
+"$CC" -c "$out/objects/debug_info.s" -o "$out/objects/debug_info.o"
+CC="$CC" "$here/one_object.sh" "$out/objects" "$proved" "$out/objects/debug_info.o"
 "$CC" -std=c11 -O2 -fPIC "${strict[@]}" "${include[@]}" -c "$here/heap.c" -o "$out/objects/heap.o"
 "$ar" rcs "$out/liblarboardyuzu.a" "$out/objects/hidden.o" "$out/objects/heap.o"
 

@@ -40,9 +40,8 @@ fi
 if has python3; then
     CC="$CC" python3 "$here/abi.py" check "$top/include/larboardyuzu.h" "$here/abi-0.3.txt"
     if has abidw; then
-        CC="$CC" python3 "$here/abi.py" describe "$top/include/larboardyuzu.h" "$out/calls.so"
-        abidw "$out/calls.so" --out-file "$out/calls.abi"
-        [ "$(grep -c "class-decl name='larboardyuzu_" "$out/calls.abi")" = "$(grep -c '^struct ' "$here/abi-0.3.txt")" ] \
+        abidw "$here/out/liblarboardyuzu.so" --out-file "$out/library.abi"
+        [ "$(grep -c "class-decl name='larboardyuzu_" "$out/library.abi")" = "$(grep -c '^struct ' "$here/abi-0.3.txt")" ] \
             || { echo "abi: abidw doesn't see each struct"; exit 1; }
     fi
 fi
