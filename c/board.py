@@ -34,7 +34,7 @@ class Board:
             script = it.read().replace("= RAM_SIZE", f"= {memory}").replace("+= STACK_SIZE", f"+= {stack}")
         with open(f"{self.room}/board.ld", "w", encoding="utf-8") as it:
             it.write(script)
-        command = [os.environ.get("CC_ARM64", "aarch64-linux-gnu-gcc"), "-std=gnu11", "-Os", "-ffreestanding", "-fno-builtin",
+        command = [os.environ.get("CC_ARM64") or "aarch64-linux-gnu-gcc", "-std=gnu11", "-Os", "-ffreestanding", "-fno-builtin",
                    "-fno-stack-protector", "-fno-pie", "-no-pie", "-mstrict-align", "-ffunction-sections", "-fdata-sections", "-Wall", "-Wextra",
                    "-Werror", f"-I{TOP}/include", f"-I{TOP}/examples/c", f"-DHEAP_SIZE={block}", *words, "-static", "-nostdlib",
                    f"-Wl,-T,{self.room}/board.ld,--gc-sections,--build-id=none", f"{HERE}/tests/start_arm64.c", f"{HERE}/tests/no_libc.c",
