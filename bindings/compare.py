@@ -87,6 +87,7 @@ def compare_rust(header):
     }
     wanted = {capital(name): [(it, in_rust(kind)) for it, kind in fields] for name, fields in header.structs.items()}
     wanted["Handle"] = [("memory", "*mut c_void"), ("is_open", "usize")]
+    wanted["Given"] = [("is_given", "bool"), ("at", "*mut c_void")]  # of larboardyuzu_heap.h
     yield from differences("sys.rs", structs, wanted)
     calls = {
         name: (result or "void", pairs_of_rust(arguments))

@@ -1,15 +1,15 @@
-#!/bin/sh
+#!/usr/bin/env bash
 # check.sh all: what `make check` runs: the interface, the examples, the tests, what is installed, other languages, and the comparison with the
 # program. A part whose tool is missing is skipped with a line; anything else that fails ends it.
-set -eu
+set -euo pipefail
 [ $# != 0 ] || { sed -n '2,/^[^#]/s/^# \{0,1\}//p' "$0" >&2; exit 2; }
 here=$(cd "$(dirname "$0")" && pwd)
 top=$(dirname "$here")
 out=$here/out/check
 lib=$here/out/liblarboardyuzu.a
 CC=${CC:-cc} CXX=${CXX:-c++} RANDOM_SECONDS=${RANDOM_SECONDS:-4} PROGRAM=${PROGRAM:-$top/crates/midi_tool/out/midi_tool}
-STRICT=${STRICT:--Wall -Wextra -Wpedantic -Wconversion -Wshadow -Werror}
-flags="-O2 -g $STRICT -I$top/include -I$top/examples/c"
+read -ra strict <<<"${STRICT:--Wall -Wextra -Wpedantic -Wconversion -Wshadow -Werror}"
+flags=(-O2 -g "${strict[@]}" "-I$top/include" "-I$top/examples/c")
 rm -rf "$out"
 mkdir -p "$out"
 
@@ -47,7 +47,7 @@ if has python3; then
 fi
 for header in larboardyuzu.h larboardyuzu_heap.h; do
     for language in c11 c99; do
-        "$CC" -std=$language $STRICT -fsyntax-only -x c "$top/include/$header"
+        "$CC" -std=$language "${strict[@]}" -fsyntax-only -x c "$top/include/$header"
     done
 done
 echo "headers: ok"
@@ -72,15 +72,15 @@ fi
 # ---- The examples in C, as C11 and as C++17.
 expected=$top/examples/c/expected
 for name in down block up endpoint; do
-    "$CC" -std=c11 $flags "$top/examples/c/$name.c" "$lib" -o "$out/$name"
+    "$CC" -std=c11 "${flags[@]}" "$top/examples/c/$name.c" "$lib" -o "$out/$name"
     compares "$name.c" "$expected/$name" "$out/$name"
 done
-"$CC" -std=c11 $flags "$top/examples/c/fixed_block.c" "$top/examples/c/own_heap.c" "$lib" -o "$out/fixed_block"
+"$CC" -std=c11 "${flags[@]}" "$top/examples/c/fixed_block.c" "$top/examples/c/own_heap.c" "$lib" -o "$out/fixed_block"
 compares fixed_block.c "$expected/fixed_block" "$out/fixed_block"
-"$CC" -std=c11 $flags "$top/examples/c/panel.c" "$lib" -o "$out/panel"
+"$CC" -std=c11 "${flags[@]}" "$top/examples/c/panel.c" "$lib" -o "$out/panel"
 compares panel.c "$expected/panel" "$out/panel" "$top/examples/endpoint.toml"
 for name in device daemon; do
-    "$CC" -std=c11 $flags "$top/examples/c/$name.c" "$lib" -o "$out/$name"
+    "$CC" -std=c11 "${flags[@]}" "$top/examples/c/$name.c" "$lib" -o "$out/$name"
 done
 if has python3; then
     python3 "$here/tests/device.py" "$out/device" "$top/examples/endpoint.toml"
@@ -90,7 +90,7 @@ else
 fi
 if has "$CXX"; then
     for name in down block up endpoint; do
-        "$CXX" -std=c++17 $flags -x c++ "$top/examples/c/$name.c" -x none "$lib" -o "$out/$name-cxx"
+        "$CXX" -std=c++17 "${flags[@]}" -x c++ "$top/examples/c/$name.c" -x none "$lib" -o "$out/$name-cxx"
         compares "$name.c in C++" "$expected/$name" "$out/$name-cxx"
     done
 else
@@ -98,20 +98,22 @@ else
 fi
 
 # ---- The tests: statuses, block calls, resets, requests that are refused, calls of the heap, threads, and what handles cost.
-tests="translators readers endpoint pure starved blocks resets"
-sources() { # NAME: the sources of a test
-    echo "$here/tests/$1.c"
-    case $1 in blocks | resets | memory) echo "$here/tests/subjects.c" ;; esac
+tests=(translators readers endpoint pure starved blocks resets)
+set_sources() { # NAME: the sources of a test
+    sources=("$here/tests/$1.c")
+    case $1 in blocks | resets | memory) sources+=("$here/tests/subjects.c") ;; esac
 }
-for name in $tests; do
-    "$CC" -std=c11 $flags $(sources $name) "$lib" -o "$out/test-$name"
+for name in "${tests[@]}"; do
+    set_sources "$name"
+    "$CC" -std=c11 "${flags[@]}" "${sources[@]}" "$lib" -o "$out/test-$name"
     "$out/test-$name"
 done
-"$CC" -std=c11 $flags $(sources memory) "$lib" -Wl,--wrap=malloc,--wrap=realloc,--wrap=free -o "$out/memory"
+set_sources memory
+"$CC" -std=c11 "${flags[@]}" "${sources[@]}" "$lib" -Wl,--wrap=malloc,--wrap=realloc,--wrap=free -o "$out/memory"
 "$out/memory"
-"$CC" -std=c11 $flags "$here/tests/own_heap.c" "$top/examples/c/own_heap.c" "$lib" -o "$out/own_heap"
+"$CC" -std=c11 "${flags[@]}" "$here/tests/own_heap.c" "$top/examples/c/own_heap.c" "$lib" -o "$out/own_heap"
 "$out/own_heap"
-"$CC" -std=c11 $flags -pthread "$here/tests/threads.c" "$lib" -o "$out/threads"
+"$CC" -std=c11 "${flags[@]}" -pthread "$here/tests/threads.c" "$lib" -o "$out/threads"
 "$out/threads"
 if has python3; then
     CC="$CC" python3 "$here/costs.py" check "$lib" "$out/costs"
@@ -136,8 +138,9 @@ fi
 
 # ---- The same under sanitizers and valgrind.
 if echo 'int main(void){return 0;}' | "$CC" -fsanitize=address,undefined -x c - -o "$out/sanitized" 2>/dev/null; then
-    for name in $tests; do
-        "$CC" -std=c11 $flags -fsanitize=address,undefined -fno-sanitize-recover=all $(sources $name) "$lib" -o "$out/sanitized"
+    for name in "${tests[@]}"; do
+        set_sources "$name"
+        "$CC" -std=c11 "${flags[@]}" -fsanitize=address,undefined -fno-sanitize-recover=all "${sources[@]}" "$lib" -o "$out/sanitized"
         "$out/sanitized" >/dev/null
     done
     echo "sanitizers: ok"
@@ -145,7 +148,7 @@ else
     echo "sanitizers: skipped, $CC has none"
 fi
 if has valgrind; then
-    for name in $tests; do
+    for name in "${tests[@]}"; do
         valgrind -q --error-exitcode=1 --leak-check=full "$out/test-$name" >/dev/null
     done
     echo "valgrind: ok"
@@ -158,24 +161,32 @@ if has pkg-config; then
     make -s -C "$here" install DESTDIR="$out/installed" PREFIX=/usr >/dev/null
     found=$(PKG_CONFIG_SYSROOT_DIR="$out/installed" PKG_CONFIG_ALLOW_SYSTEM_CFLAGS=1 PKG_CONFIG_ALLOW_SYSTEM_LIBS=1 \
         PKG_CONFIG_PATH="$out/installed/usr/lib/pkgconfig" pkg-config --cflags --libs larboardyuzu)
-    "$CC" -std=c11 "$top/examples/c/down.c" $found -o "$out/installed-down"
-    "$CC" -std=c11 "$here/tests/version.c" $found -o "$out/version"
+    # pkg-config writes a space in a folder with a backslash, as a shell reads it
+    eval "found=($found)"
+    "$CC" -std=c11 "$top/examples/c/down.c" "${found[@]}" -o "$out/installed-down"
+    "$CC" -std=c11 "$here/tests/version.c" "${found[@]}" -o "$out/version"
     PKG_CONFIG_PATH="$out/installed/usr/lib/pkgconfig" pkg-config --modversion larboardyuzu >"$out/modversion"
     compares version "$out/modversion" env LD_LIBRARY_PATH="$out/installed/usr/lib" "$out/version"
     compares installed "$expected/down" env LD_LIBRARY_PATH="$out/installed/usr/lib" "$out/installed-down"
 else
     echo "installed: skipped, there is no pkg-config"
 fi
+builds_by_cmake() { # FOLDER WORDS..: lets CMake build in this folder of $out, and shows what it says if it fails
+    local folder=$out/$1
+    shift
+    if ! { cmake -B "$folder" "$@" && cmake --build "$folder"; } >"$out/cmake.log" 2>&1; then
+        cat "$out/cmake.log"
+        exit 1
+    fi
+}
 if has cmake; then
     make -s -C "$here" install DESTDIR="$out/installed" PREFIX=/usr LIBDIR=/usr/lib/own >/dev/null
     for kind in shared static; do
-        cmake -S "$here/tests/cmake-installed" -B "$out/cmake-$kind" -DKIND=$kind -DCMAKE_PREFIX_PATH="$out/installed/usr" \
-            -Dlarboardyuzu_DIR="$out/installed/usr/lib/own/cmake/larboardyuzu" >"$out/cmake.log" 2>&1 \
-            && cmake --build "$out/cmake-$kind" >>"$out/cmake.log" 2>&1 || { cat "$out/cmake.log"; exit 1; }
+        builds_by_cmake "cmake-$kind" -S "$here/tests/cmake-installed" -DKIND=$kind -DCMAKE_PREFIX_PATH="$out/installed/usr" \
+            -Dlarboardyuzu_DIR="$out/installed/usr/lib/own/cmake/larboardyuzu"
         compares "CMake, find_package, $kind" "$expected/down" "$out/cmake-$kind/down"
     done
-    cmake -S "$here/tests/cmake" -B "$out/cmake" -DLARBOARDYUZU_PROVED="$lib" >"$out/cmake.log" 2>&1 \
-        && cmake --build "$out/cmake" >>"$out/cmake.log" 2>&1 || { cat "$out/cmake.log"; exit 1; }
+    builds_by_cmake cmake -S "$here/tests/cmake" -DLARBOARDYUZU_PROVED="$lib"
     compares CMake "$expected/down" "$out/cmake/down"
 else
     echo "CMake: skipped, there is no cmake"
@@ -187,7 +198,7 @@ for check in examples/cpp bindings/rust bindings/python; do
 done
 
 # ---- The same answers as the program.
-"$CC" -std=c11 $flags "$here"/tests/program/*.c "$lib" -o "$out/program"
+"$CC" -std=c11 "${flags[@]}" "$here"/tests/program/*.c "$lib" -o "$out/program"
 if ! has python3; then
     echo "program: not compared, there is no python3"
 elif [ ! -x "$PROGRAM" ]; then

@@ -1,3 +1,4 @@
+# shellcheck shell=bash disable=SC2046
 # Completion of larboardyuzu for bash: source this file, or copy it to ~/.local/share/bash-completion/completions/larboardyuzu.
 
 # Sorts the words before the one that is completed: `given` gets the options, `plain` the command and its other words, and `due` the option

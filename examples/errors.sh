@@ -44,7 +44,7 @@ shows() {
     'code 8') edited 's/"Main"/Main/' ;;
     'code 9') edited 's/^hint.*/hint = 4/' ;;
     'code 10') (ulimit -v 16000 && ./larboardyuzu translate down --folder out < in.ump) ;;
-    # The next two are the script's own: a program that can't be built, and a machine without the kit.
+    # The next two are for a checkout, and end in the script: a program that can't be built, and a machine without the kit.
     'code 126') D=$(mktemp -d) && mkdir -p "$D/crates/midi_tool" && cp larboardyuzu crates.txt "$D" && ln -s /bin/false "$D/rt" &&
       PATH=$D:$PATH "$D/larboardyuzu" show ;;
     'code 127') D=$(mktemp -d) && cp larboardyuzu crates.txt "$D" && PATH=/usr/bin:/bin "$D/larboardyuzu" show ;;
@@ -66,9 +66,9 @@ shows() {
       > in.bad && ./larboardyuzu clip < in.bad ;;
     'refused NoEnd') hex 534D4632434C4950 > in.bad && ./larboardyuzu clip < in.bad ;;
 
-    'cause a Standard MIDI File') hex 4D546864 00000006 > in.bad && first ./larboardyuzu translate up < in.bad ;;
-    'cause a clip file') first ./larboardyuzu show < examples/note.midi2 &&
-      first ./larboardyuzu translate down --folder out < examples/note.midi2 ;;
+    'cause a Standard MIDI File') hex 4D546864 00000006 > in.bad && first ./larboardyuzu translate up < <(cat in.bad) ;;
+    'cause a clip file') first ./larboardyuzu show < <(cat examples/note.midi2) &&
+      first ./larboardyuzu translate down --folder out < <(cat examples/note.midi2) ;;
     'cause hexadecimal text') printf 40903C00 > in.bad && first ./larboardyuzu translate up < in.bad && first ./larboardyuzu show < in.bad ;;
     'cause packets') first ./larboardyuzu show --bytes < in.ump ;;
     'cause words with the least significant byte first') hex 003C9040 000024C9 > in.bad && first ./larboardyuzu show < in.bad ;;

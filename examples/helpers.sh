@@ -3,6 +3,7 @@
 
 # The blocks of the pages have comments, which zsh takes for words at a terminal unless it is told.
 if [ -n "${ZSH_VERSION-}" ]; then setopt interactive_comments; fi
+if [ -z "${ZSH_VERSION-}${BASH_VERSION-}" ]; then echo 'helpers.sh: for bash and zsh; in this shell hex writes wrong bytes' >&2; fi
 
 # Whether the words after the first are hexadecimal digits in groups, each of a multiple of as many as the first says.
 are_groups() {

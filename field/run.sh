@@ -29,12 +29,12 @@ cd "$work"
 say() { echo "field: $* (after $SECONDS s)"; }
 
 get_tools() {
-  local packages='gcc libc6-dev make python3 qemu-system-x86' tool
+  local packages=(gcc libc6-dev make python3 qemu-system-x86) tool
   for tool in gcc make python3 qemu-system-x86_64; do
     command -v $tool > /dev/null && continue
-    say "there is no $tool: apt-get install $packages"
+    say "there is no $tool: apt-get install ${packages[*]}"
     [ "$(id -u)" = 0 ] || exit 1
-    apt-get -qq install -y --no-install-recommends $packages > tools.log 2>&1
+    apt-get -qq install -y --no-install-recommends "${packages[@]}" > tools.log 2>&1
     return
   done
 }

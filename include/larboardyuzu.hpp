@@ -21,10 +21,15 @@
 
 #include <cstddef>
 #include <cstdint>
+#include <initializer_list>
 #include <iterator>
 #include <string_view>
 #include <type_traits>
 #include <utility>
+
+#if __cplusplus >= 202002L && __has_include(<ranges>)
+#include <ranges>
+#endif
 
 namespace larboardyuzu
 {
@@ -33,6 +38,7 @@ namespace larboardyuzu
 
 // The result of a call: Done, or why it refused.
 enum class Status : std::uint32_t {
+    // generate.py: enum larboardyuzu_status
     Done = LARBOARDYUZU_DONE,
     NoMemory = LARBOARDYUZU_NO_MEMORY,
     HandleClosed = LARBOARDYUZU_HANDLE_CLOSED,
@@ -57,14 +63,17 @@ enum class Status : std::uint32_t {
     BadFlags = LARBOARDYUZU_BAD_FLAGS,
     BadSize = LARBOARDYUZU_BAD_SIZE,
     BadChannel = LARBOARDYUZU_BAD_CHANNEL
+    // generate.py: end
 };
 
 // Flags of a call, joined by |.
 enum class Flags : std::uint32_t {
+    // generate.py: enum larboardyuzu_flag
     Compact = LARBOARDYUZU_COMPACT,
     Paired = LARBOARDYUZU_PAIRED,
     OfBytes = LARBOARDYUZU_OF_BYTES,
     LittleEndian = LARBOARDYUZU_LITTLE_ENDIAN
+    // generate.py: end
 };
 
 constexpr Flags operator|(Flags one, Flags other) noexcept
@@ -74,6 +83,7 @@ constexpr Flags operator|(Flags one, Flags other) noexcept
 
 // The kind of a line of the listing.
 enum class Kind : std::uint8_t {
+    // generate.py: enum larboardyuzu_kind
     NoLine = LARBOARDYUZU_NO_LINE,
     Utility = LARBOARDYUZU_UTILITY,
     Stream = LARBOARDYUZU_STREAM,
@@ -96,10 +106,12 @@ enum class Kind : std::uint8_t {
     CutMessage = LARBOARDYUZU_CUT_MESSAGE,
     OpenMessage = LARBOARDYUZU_OPEN_MESSAGE,
     IgnoredDataEntry = LARBOARDYUZU_IGNORED_DATA_ENTRY
+    // generate.py: end
 };
 
 // The endpoint's reaction to a stream message or a complete exclusive.
 enum class Heard : std::uint8_t {
+    // generate.py: enum larboardyuzu_heard
     Nothing = LARBOARDYUZU_HEARD_NOTHING,
     NotCi = LARBOARDYUZU_HEARD_NOT_CI,
     Short = LARBOARDYUZU_HEARD_SHORT,
@@ -118,10 +130,12 @@ enum class Heard : std::uint8_t {
     Nak = LARBOARDYUZU_HEARD_NAK,
     NoAnswer = LARBOARDYUZU_HEARD_NO_ANSWER,
     BadFormat = LARBOARDYUZU_HEARD_BAD_FORMAT
+    // generate.py: end
 };
 
 // The kind of a fact.
 enum class FactKind : std::uint8_t {
+    // generate.py: enum larboardyuzu_fact_kind
     On = LARBOARDYUZU_FACT_ON,
     Off = LARBOARDYUZU_FACT_OFF,
     Mode = LARBOARDYUZU_FACT_MODE,
@@ -134,10 +148,12 @@ enum class FactKind : std::uint8_t {
     Assignable = LARBOARDYUZU_FACT_ASSIGNABLE,
     System = LARBOARDYUZU_FACT_SYSTEM,
     RealTime = LARBOARDYUZU_FACT_REAL_TIME
+    // generate.py: end
 };
 
 // The effect of a packet on its stream's 8-bit exclusive.
 enum class Joined : std::uint8_t {
+    // generate.py: enum larboardyuzu_joined
     Other = LARBOARDYUZU_JOINED_OTHER,
     Held = LARBOARDYUZU_JOINED_HELD,
     Whole = LARBOARDYUZU_JOINED_WHOLE,
@@ -146,6 +162,7 @@ enum class Joined : std::uint8_t {
     RestartedWhole = LARBOARDYUZU_JOINED_RESTARTED_WHOLE,
     Full = LARBOARDYUZU_JOINED_FULL,
     TooLong = LARBOARDYUZU_JOINED_TOO_LONG
+    // generate.py: end
 };
 
 // ---- The structs of the header, and their numbers as enums.
@@ -176,7 +193,8 @@ constexpr std::size_t usb_size(std::size_t room) noexcept { return LARBOARDYUZU_
 // ---- Arguments and results of the calls.
 
 // A pointer and an element count, like std::span. It can be constructed from an array, from anything with
-// data() and size(), or from a pointer and a size. It doesn't own the elements, which must outlive it.
+// data() and size(), or from a pointer and a size; a View of const elements also from a list in braces, which
+// lives until the end of the call that it is passed to. It doesn't own the elements, which must outlive it.
 template <class T> class View
 {
     // A range is accepted only if a pointer to its items converts to `T (*)[]`, which allows adding const but
@@ -187,6 +205,13 @@ template <class T> class View
   public:
     constexpr View() noexcept = default;
     constexpr View(T *data, std::size_t size) noexcept : places(data), count(size) {}
+    // Without this, { 0, 1 } would be a null pointer and a size.
+    View(std::nullptr_t, std::size_t) = delete;
+    template <class Item = T, class = std::enable_if_t<std::is_const_v<Item>>>
+    constexpr View(std::initializer_list<std::remove_const_t<Item>> items) noexcept
+        : View(items.begin(), items.size())
+    {
+    }
     template <class Range, class = std::enable_if_t<std::is_convertible_v<ArrayOf<Range>, T (*)[]>>>
     constexpr View(Range &&range) noexcept : places(std::data(range)), count(std::size(range))
     {
@@ -678,5 +703,11 @@ inline Result<Block> packets_in(Bytes bytes, View<std::uint32_t> words, Flags fl
 }
 
 } // namespace larboardyuzu
+
+#ifdef __cpp_lib_ranges
+// The iterators of a View are pointers, which stay valid when the View is gone.
+template <class T> inline constexpr bool std::ranges::enable_borrowed_range<larboardyuzu::View<T>> = true;
+template <class T> inline constexpr bool std::ranges::enable_view<larboardyuzu::View<T>> = true;
+#endif
 
 #endif

@@ -2,9 +2,9 @@
 """check.py PROGRAM [PAGE..]: runs what the pages say with this program, and compares.
 
 With pages, it runs the `sh` blocks of these alone. With none it runs those of README.md, CONTRIBUTING.md and docs/*.md, the input of each row
-of docs/errors.md, which is in examples/errors.sh, and the examples of docs/help/, and checks the man page, the completions and the script
-./larboardyuzu. All of it happens in copies of this repository without its sources, so that nothing is built. What needs a tool that isn't here
-is left out, with a line. The exit code is 1 if anything differs."""
+of docs/errors.md, which is in examples/errors.sh, and the examples of docs/help/, checks the man page, the completions, the script
+./larboardyuzu and its helpers, and pastes the blocks into interactive shells. All of it happens in copies of this repository without its sources, so that
+nothing is built. What needs a tool that isn't here is left out, with a line. The exit code is 1 if anything differs."""
 import os
 import re
 import shlex
@@ -15,6 +15,8 @@ import sys
 import tempfile
 
 import check_help
+import check_pasted
+import check_setups
 import check_shells
 
 TOP = os.path.dirname(os.path.dirname(os.path.abspath(__file__)))
@@ -216,13 +218,16 @@ def main(words):
         return 2
     program = os.path.abspath(words[0])
     if not os.path.isfile(program):
-        print(f"check.py: there is no program {program}: build it by ./larboardyuzu selftest 0")
+        print(f"check.py: there is no program {program}: build it by ./larboardyuzu prove")
         return 1
     differ = [why for page in words[1:] or pages() for why in check_page(program, page)]
     if not words[1:]:
         differ += check_errors(program)
+        with Room(program) as room:
+            differ += check_setups.check(room)
         differ += check_help.check(Room, program, TOP)
         differ += check_shells.check(check_shells.LOADS)
+        differ += check_pasted.check_pages(program, pages())
     print(*differ, sep="\n")
     print(f"pages: {len(differ)} differ" if differ else "pages: all as they say")
     return 1 if differ else 0

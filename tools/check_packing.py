@@ -3,19 +3,29 @@
 
 Two copies in folders of other names, with other permissions and at other times, have to pack the same archive. What is missing, older than
 its sources, changed or unknown to git has to be refused. SHA256SUMS has to agree with what it was made of, to find a byte that differs, and
-to pass over what has other sources. The exit code is 1 if anything fails."""
+to pass over what has other sources; packing has to say so where a byte differs. The bill of materials has to name what is packed. A program
+without a proof, in out/unproved, is never installed, packed, summed up or given to the gate. The exit code is 1 if anything fails."""
+import json
 import os
 import shutil
 import subprocess
 import sys
+import tarfile
 import tempfile
 
+import bill
 import built
 import release
 from built import TOP
 
 COMMIT = ["-c", "user.name=check_packing", "-c", "user.email=none", "-c", "commit.gpgsign=false", "commit", "-q", "-m", "a copy"]
 PROGRAM = "crates/midi_tool/out/midi_tool"
+UNPROVED = "out/unproved/midi_tool"
+# Takes the place of a tool that the gate calls, and tells the words in the file CALLS. As rt it says that all has passed.
+TOOL = """#!/bin/sh
+echo "${0##*/} $*" >>"$CALLS"
+[ "${0##*/}" != rt ] || echo '1 passed, 0 failed'
+"""
 
 
 class Copy:
@@ -44,12 +54,16 @@ class Copy:
         self.git("add", "-A")
         self.git(*COMMIT)
 
+    def run(self, *words, **more):
+        """The exit code of these words in the copy, and all that they say."""
+        env = {it: value for it, value in os.environ.items() if it not in ("UNCOMMITTED", "SOURCE_DATE_EPOCH", "PROGRAM", "LIBRARY")}
+        how = {"stdin": subprocess.DEVNULL, "capture_output": True, "text": True, "umask": self.umask, "check": False}
+        done = subprocess.run(words, cwd=self.at, env={**env, **more}, **how)
+        return done.returncode, done.stdout + done.stderr
+
     def ask(self, *words):
         """The exit code of tools/release.py and all that it says."""
-        env = {it: value for it, value in os.environ.items() if it not in ("UNCOMMITTED", "SOURCE_DATE_EPOCH", "PROGRAM", "LIBRARY")}
-        how = {"capture_output": True, "text": True, "env": env, "umask": self.umask, "check": False}
-        done = subprocess.run([f"{self.at}/tools/release.py", *words], **how)
-        return done.returncode, done.stdout + done.stderr
+        return self.run("tools/release.py", *words)
 
     def archive(self):
         return f"{self.at}/out/{release.name_of_release()}.tar.gz"
@@ -76,6 +90,27 @@ def check_same(first, second):
             yield f"{copy.at}: exit code {code}, {said}"
     if first.sum() is None or first.sum() != second.sum():
         yield f"two copies pack archives with the sums {first.sum()} and {second.sum()}"
+
+
+def check_beside(copy):
+    """The sums beside the archive agree, and the bill beside it is that in it, and names what is packed with its sums."""
+    code, said = copy.run("sh", "-c", "cd out && sha256sum -c SHA256SUMS")
+    if code or said.count(": OK\n") != 2:
+        yield f"the sums beside the archive: {said}"
+    with tarfile.open(copy.archive()) as packed, open(f"{copy.at}/out/{release.name_of_release()}.spdx.json", "rb") as it:
+        inside, beside = packed.extractfile(f"{release.name_of_release()}/{bill.NAME}").read(), it.read()
+    if inside != beside:
+        yield "the bill of materials in the archive isn't that beside it"
+    told = json.loads(beside)
+    sums = {it["fileName"]: [one["checksumValue"] for one in it["checksums"] if one["algorithm"] == "SHA256"] for it in told["files"]}
+    if sums != (wanted := {f"./{it.name}": [release.sum_of_file(it.at())] for it in built.built()}):
+        yield f"the bill of materials has the sums {sums}, and not {wanted}"
+    crates = {it["name"]: it["versionInfo"] for it in told["packages"]}
+    if sorted(crates) != sorted([*built.kit_crates(built.built()), "larboardyuzu"]) or not all(crates.values()):
+        yield f"the bill of materials has the crates {crates}"
+    names = {it["SPDXID"] for part in ("packages", "files") for it in told[part]} | {told["SPDXID"]}
+    if lost := [it for it in told["relationships"] if not {it["spdxElementId"], it["relatedSpdxElement"]} <= names]:
+        yield f"the bill of materials relates what it doesn't have: {lost}"
 
 
 def check_refusals(copy):
@@ -115,14 +150,62 @@ def check_sums(copy):
     copy.commit()
     yield from refuses_nothing(copy, before)
     yield from compares(copy, "with its own sums", 0, f"{release.name_of_release()}.tar.gz: as in SHA256SUMS")
+    yield from check_unproved(copy, before)
+    yield from check_gate(copy)
     with open(f"{copy.at}/{PROGRAM}", "r+b") as it:
         it.seek(-1, os.SEEK_END)
         last = it.read(1)[0]
         it.seek(-1, os.SEEK_END)
         it.write(bytes([last ^ 1]))
     yield from compares(copy, "with another byte in the program", 1, "libexec/larboardyuzu: DIFFERS")
+    for words in (["tools/release.py", "pack"], ["tools/packages.py", "make"]):
+        code, said = copy.run(*words)
+        if code or ": libexec/larboardyuzu DIFFERS from SHA256SUMS, though it has the same sources" not in said:
+            yield f"with another byte in the program, {words[0]}: exit code {code}, {said}"
     copy.add("crates/bit_scaling/src/lib.rt", "// more\n")
     yield from compares(copy, "with another source", 0, "libexec/larboardyuzu: left out, since its sources")
+
+
+def check_unproved(copy, before):
+    """A program without a proof takes no part in anything, whether the proved one is there or not."""
+    os.makedirs(f"{copy.at}/out/unproved")
+    with open(f"{copy.at}/{UNPROVED}", "wb") as it:
+        it.write(b"#!/bin/sh\necho without a proof\n")
+    os.chmod(f"{copy.at}/{UNPROVED}", 0o755)
+    code, said = copy.ask("pack")
+    if code or copy.sum() != before or "DIFFERS" in said:
+        yield f"beside a program without a proof: exit code {code}, the sum {copy.sum()} and not {before}, {said}"
+    os.rename(f"{copy.at}/{PROGRAM}", f"{copy.at}/{PROGRAM}.away")
+    yield from refuses(copy, "with a program without a proof alone", f"there is no {PROGRAM}")
+    # (the sums are there, so what isn't built is passed over)
+    yield from compares(copy, "with a program without a proof alone", 0, "libexec/larboardyuzu: left out, since it isn't built or packed here")
+    calls = {"make -s install": (2, f"there is no program {PROGRAM}"), "tools/packages.py make": (0, "without larboardyuzu for amd64"),
+             "tools/release.py sums": (1, f"there is no {PROGRAM}")}
+    for words, (wanted, says) in calls.items():
+        code, said = copy.run(*words.split(), DESTDIR=f"{copy.at}/out/installed")
+        if code != wanted or says not in said:
+            yield f"with a program without a proof alone, {words}: exit code {code}, {said}"
+    if os.path.exists(f"{copy.at}/out/installed/usr/local/libexec/larboardyuzu"):
+        yield "a program without a proof is installed"
+    os.rename(f"{copy.at}/{PROGRAM}.away", f"{copy.at}/{PROGRAM}")
+    if (got := copy.ask("pack"))[0] or copy.sum() != before:
+        yield f"once the proved program is there again: {got}"
+
+
+def check_gate(copy):
+    """The gate gives its checks the proved program, and none of them the one without a proof."""
+    room = f"{copy.at}/out/stand-ins"
+    os.mkdir(room)
+    for name in ("rt", "python3", "make", "shellcheck", "zsh", "fish"):
+        with open(f"{room}/{name}", "w", encoding="utf-8") as it:
+            it.write(TOOL)
+        os.chmod(f"{room}/{name}", 0o755)
+    code, said = copy.run(".ci/run", PATH=f"{room}:/usr/bin:/bin", CALLS=f"{room}/calls")
+    with open(f"{room}/calls", encoding="utf-8") as it:
+        calls = it.read()
+    if code or f"python3 tools/check.py {PROGRAM}\n" not in calls or "unproved" in calls + said:
+        yield f"the gate, with tools that tell what they are asked: exit code {code}, {said}, {calls}"
+    shutil.rmtree(room)
 
 
 def refuses_nothing(copy, before):
@@ -148,7 +231,7 @@ def main(words):
     with tempfile.TemporaryDirectory(prefix="larboardyuzu-packing-") as room:
         first = Copy(f"{room}/one")
         second = Copy(f"{room}/another", first, 0o077)
-        failed = [*check_same(first, second), *check_refusals(first), *check_sums(second)]
+        failed = [*check_same(first, second), *check_beside(first), *check_refusals(first), *check_sums(second)]
     print(*failed, f"packing: {len(failed)} failed" if failed else "packing: the same twice, and refused what it should", sep="\n")
     return 1 if failed else 0
 

@@ -1,11 +1,12 @@
 #!/usr/bin/env python3
 """faults.py PROGRAM: runs each command with each of its allocations, openings, reads and writes failing in turn, with no memory from each
 allocation on, and with each read and write cut to one byte, interrupted, or taking nothing, by a library that is loaded before the program
-(faults.c, built by `cc`): first with a file as standard input, then with a pipe, where what was put is written out before each read, so that
-a write which fails once may be made good, and where each later write fails too. What the run leaves is compared with the table of docs/errors.md: the exit code, the last line, and files that
-begin as those of the run without a fault, or are the same. Then come the other ends of that table, arguments that aren't UTF-8 among them,
-and standard streams that are closed. It isn't part of the gate. The exit code is how many differ: each command counts as one, and so do the
-other ends together."""
+(faults.c, built by `cc`): first with a file as standard input, then with a pipe, where what was put is written out before each read, and where
+each later write fails too. Each command is tried on an input that it does wholly, and on one that it refuses after all of that. What the run
+leaves is compared with the table of docs/errors.md: the exit code, the last line, and files that begin as those of the run without a fault, or
+are the same. Then each place that a command writes to is a full disk, and a pipe that nobody reads, again with a file and with a pipe as
+standard input. Then come the other ends of that table, arguments that aren't UTF-8 among them, and standard streams that are closed. It isn't
+part of the gate. The exit code is how many differ: each command counts as one, and so do the other ends together."""
 import itertools
 import os
 import subprocess
@@ -50,6 +51,23 @@ COMMANDS = [
     (["clip"], CLIP),
     (["selftest", "7", "--packets", "50"], b""),
 ]
+# The same, refused at the end of a shorter input.
+FEW, FEW_BYTES, SENT_BEFORE = example("mixed.ump") * 60, example("old-keyboard.bytes") * 60, words("09903C64 00000000") * 400
+HIGH_BIT, INCREMENT, TOO_LONG = words("20903C80"), words("B06000"), b"\xf0" + bytes(1000)
+REFUSED = [
+    (["translate", "down", "--folder", "F"], FEW + HIGH_BIT),
+    (["translate", "up"], FEW_BYTES + INCREMENT),
+    (["translate", "back"], FEW_BYTES + INCREMENT),
+    (["show"], FEW + HIGH_BIT),
+    (["show", "--state"], FEW + HIGH_BIT),
+    (["show", "--bytes", "--room", "999"], FEW_BYTES + TOO_LONG),
+    (["endpoint", SETUP], example("peer.ump") * 60 + HIGH_BIT),
+    (["usb", "split", "--folder", "F"], SENT_BEFORE + words("0990")),
+    (["usb", "pack", "--room", "999"], FEW_BYTES + TOO_LONG),
+    (["sysex8", "--folder", "F"], DATA8 + HIGH_BIT),
+    (["rehearse", SETUP], words("000000 010000 020000 030000")),
+    (["clip"], CLIP + HIGH_BIT),
+]
 
 USAGE = b"usage: translate, show, endpoint or selftest\n"
 SETUPS = {"no-toml": b"hint =\n", "no-text": b"# \xff\n", "rule-1": b"endpoint = 1\n", "too-long": b"#" * 65537}
@@ -79,7 +97,7 @@ CLOSED = [
 class Left:
     """What a run leaves: the exit code, the bytes of each lane, of standard output and of standard error."""
 
-    def __init__(self, room, program, library, arguments, given, fault, closed=None, piped=False):
+    def __init__(self, room, program, library, arguments, given, fault, closed=None, piped=False, unwritable=None):
         folder, counts = f"{room}/F", f"{room}/counts"
         subprocess.run(["rm", "-rf", folder, counts], check=True)
         os.mkdir(folder)
@@ -89,17 +107,35 @@ class Left:
         with open(f"{room}/given", "rb") as source, open(f"{room}/output", "wb") as output, open(f"{room}/notes", "wb") as notes:
             close = None if closed is None else lambda: os.close(closed)
             how = {"input": given} if piped else {"stdin": source}
-            ran = subprocess.run([program, *arguments], cwd=room, env=env, stdout=output, stderr=notes, preexec_fn=close, check=False, **how)
+            how |= {"stdout": output, "stderr": notes, "preexec_fn": close}
+            if unwritable:
+                how |= self.not_written(folder, *unwritable)
+            ran = subprocess.run([program, *arguments], cwd=room, env=env, check=False, **how)
+            for it in how.get("pass_fds", ()):
+                os.close(it)
         self.code = ran.returncode
         with open(counts, encoding="ascii") as it:
             self.calls, self.met = map(int, it.read().split())
         self.files = {}
-        for at in sorted(os.listdir(folder)):
+        for at in sorted(it for it in os.listdir(folder) if not os.path.islink(f"{folder}/{it}")):
             with open(f"{folder}/{at}", "rb") as it:
                 self.files[at] = it.read()
         for at in ("output", "notes"):
             with open(f"{room}/{at}", "rb") as it:
                 self.files[at] = it.read()
+
+    @staticmethod
+    def not_written(folder, place, is_full):
+        """The place is a full disk, or a pipe that nobody reads."""
+        if is_full:
+            into = os.open("/dev/full", os.O_WRONLY)
+        else:
+            reader, into = os.pipe()
+            os.close(reader)
+        stream = {"output": "stdout", "notes": "stderr"}.get(place)
+        if not stream:
+            os.symlink("/dev/full" if is_full else f"/proc/self/fd/{into}", f"{folder}/{place}")
+        return {stream: into, "pass_fds": [into]} if stream else {"pass_fds": [into]}
 
 
 def object_of(call, met):
@@ -109,31 +145,42 @@ def object_of(call, met):
     return {"alloc": "memory", "read": "read", "open": "lane"}[call]
 
 
-def differs(whole, left, call, becomes, arguments, piped):
-    """What differs from the table of ends, or None. A vector that gets no memory to grow by half asks for less, and may get it. A write before
-    a read is tried again."""
+def differs(whole, left, call, becomes, arguments):
+    """What differs from the table of ends, or None. A vector that gets no memory to grow by half asks for less, and may get it."""
     is_same = (left.code, left.files) == (whole.code, whole.files)
     if becomes in ("short", "again"):
         return None if is_same else "not as without a fault"
-    if is_same and becomes != "rest" and (call == "alloc" or call == "write" and piped):
+    if is_same and becomes != "rest" and call == "alloc":
         return None
     if call == "write" and becomes == "rest":
         return None if left.code in (EXIT_CODES["lane"], EXIT_CODES["output"], EXIT_CODES["note"]) else f"exit code {left.code}"
     wanted = EXIT_CODES[object_of(call, left.met)]
     if call in ("open", "read") and "F" not in arguments and left.code == EXIT_CODES["setup"]:
         wanted = EXIT_CODES["setup"]
+    if why := ends_otherwise_than(whole, left, wanted):
+        return why
+    if call == "alloc" and "--state" not in arguments and any(kept_of(left, wanted).values()):
+        return "something was put, though there was no memory"
+    return None
+
+
+def kept_of(left, wanted):
+    """What each file holds, without the last line of this exit code."""
+    notes, last = left.files["notes"], LAST_LINES.get(wanted, "").encode()
+    return {**left.files, "notes": notes[: len(notes) - len(last)]}
+
+
+def ends_otherwise_than(whole, left, wanted):
+    """What differs from an end with this exit code, or None: the last line, and files that begin as those of the run without a fault."""
     if left.code != wanted:
         return f"exit code {left.code} for {wanted}"
     last = LAST_LINES.get(wanted, "").encode()
     notes = left.files["notes"]
     if not notes.endswith(last):
         return f"last line {notes[-40:]!r}"
-    kept = {**left.files, "notes": notes[: len(notes) - len(last)]}
-    for name, held in kept.items():
+    for name, held in kept_of(left, wanted).items():
         if not whole.files.get(name, b"").startswith(held):
             return f"{name} holds other bytes"
-    if call == "alloc" and "--state" not in arguments and any(kept.values()):
-        return "something was put, though there was no memory"
     return None
 
 
@@ -150,9 +197,21 @@ def check(room, program, library, arguments, given, piped):
                 if left.met < 0:
                     break
                 tried[call] = tried.get(call, 0) + 1
-                if why := differs(whole, left, call, becomes, arguments, piped):
+                if why := differs(whole, left, call, becomes, arguments):
                     wrong.append(f"{call} {number} {becomes}: {why}")
-    return tried, wrong
+    tried["place"], more = check_places(room, program, library, arguments, given, piped, whole)
+    return tried, wrong + more
+
+
+def check_places(room, program, library, arguments, given, piped, whole):
+    """Tries each place that a command writes to as one that can't be written; says how many there were, and what differs."""
+    places, wrong = [it for it, held in whole.files.items() if held], []
+    for place, is_full in itertools.product(places, (True, False)):
+        left = Left(room, program, library, arguments, given, "none:0:none", piped=piped, unwritable=(place, is_full))
+        wanted = {"output": 4, "notes": 5}.get(place, 3)
+        if why := ends_otherwise_than(whole, left, wanted):
+            wrong.append(f"{place} {'on a full disk' if is_full else 'into a pipe that nobody reads'}: {why}")
+    return 2 * len(places), wrong
 
 
 def ends_otherwise(room, program, library):
@@ -177,10 +236,11 @@ def main(program):
     with tempfile.TemporaryDirectory() as room:
         library = f"{room}/faults.so"
         subprocess.run(["cc", "-shared", "-fPIC", "-O1", "-o", library, f"{HERE}/faults.c", "-ldl"], check=True)
-        for piped, (arguments, given) in itertools.product((False, True), COMMANDS):
+        for piped, (arguments, given) in itertools.product((False, True), COMMANDS + REFUSED):
             tried, wrong = check(room, program, library, arguments, given, piped)
             told = ", ".join(f"{count} of {call}" for call, count in tried.items())
-            print(" ".join(os.path.basename(it) for it in arguments) + f"{', from a pipe' * piped}: {told}", *wrong, sep="\n  ", flush=True)
+            name = " ".join(os.path.basename(it) for it in arguments) + ", refused" * ((arguments, given) in REFUSED)
+            print(f"{name}{', from a pipe' * piped}: {told}", *wrong, sep="\n  ", flush=True)
             differ += bool(wrong)
         wrong = list(ends_otherwise(room, program, library))
         print(f"other ends: {len(ENDS)}, with a stream closed: {len(CLOSED)}", *wrong, sep="\n  ")

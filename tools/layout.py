@@ -2,18 +2,34 @@
 """layout.py check: prints the files of the repository that aren't as .editorconfig has them: UTF-8, lines that end with a line feed and
 without spaces, a line feed at the end, and no tabs before a line except in a Makefile. Recordings are passed over.
 
-It also prints pages that are too long: README.md and docs/*.md have at most 40,000 words together, README.md at most 2,600 words and 300
+It also prints pages that are too long: README.md and docs/*.md have at most 44,000 words together, README.md at most 3,000 words and 300
 lines, and a cell of a table at most 35 words. And it prints the files of worked rows that `crates/worked_rows/args` doesn't name, which no
-run would read. The exit code is 1 if it prints any."""
+run would read.
+
+And it prints habits that have grown: tools/fingerprints.py counts a few words on the pages, in the comments of the headers and bindings, and
+in the docstrings of the crates, and each count stays within a limit. A limit is today's count, a little rounded. Change it only towards the
+goal. The exit code is 1 if it prints any."""
 import glob
 import os
 import re
 import subprocess
 import sys
 
+import fingerprints
+
 TOP = os.path.dirname(os.path.dirname(os.path.abspath(__file__)))
 RECORDINGS = (".ump", ".midi2", ".bytes", ".usb", ".events")
-MOST_WORDS, MOST_WORDS_OF_README, MOST_LINES_OF_README, MOST_WORDS_OF_A_CELL = 40_000, 2_600, 300, 35
+MOST_WORDS, MOST_WORDS_OF_README, MOST_LINES_OF_README, MOST_WORDS_OF_A_CELL = 44_000, 3_000, 300, 35
+# Of 1,000 words: the most of a habit, and the fewest of another.
+GOAL_AT_MOST = {"what": 2, "its": 4, "of": 22}
+GOAL_AT_LEAST = {"when+if": 12, "you+can": 6}
+# Files that are counted together, and their limits of today. A change may only bring a limit nearer to the goal, or beyond it.
+COUNTED = {
+    "the pages": (["README.md", "CONTRIBUTING.md", "docs/*.md"], {"what": 1.2, "its": 1.5, "of": 20.8, "when+if": 15.5, "you+can": 6.8}),
+    "the headers": (["include/*.h", "include/*.hpp"], {"what": 1.1, "its": 10.9, "of": 48, "when+if": 9, "you+can": 0.4}),
+    "the bindings": (["bindings/rust/src/*.rs"], {"what": 3.6, "its": 6.6, "of": 36, "when+if": 7.6, "you+can": 0.2}),
+    "the docstrings": (["crates/*/src/**/*.rt"], {"what": 3.3, "its": 11.4, "of": 45.5, "when+if": 12.5, "you+can": 0.5}),
+}
 
 
 def faults(name, data):
@@ -61,6 +77,16 @@ def unread_rows():
         yield f"crates/worked_rows/data/{name}: crates/worked_rows/args doesn't name it"
 
 
+def grown_habits():
+    """Which habits are more, or less, than their limits."""
+    for name, (patterns, limits) in COUNTED.items():
+        paths = sorted(path for it in patterns for path in glob.glob(f"{TOP}/{it}", recursive=True))
+        found, _ = fingerprints.measure_files(paths)
+        wrong = [("most", it) for it in GOAL_AT_MOST if found[it] > limits[it]] + [("fewest", it) for it in GOAL_AT_LEAST if found[it] < limits[it]]
+        goals = {**GOAL_AT_MOST, **GOAL_AT_LEAST}
+        yield from (f"{name}: {found[it]:.2f} times {it} in 1,000 words; the {which} are {limits[it]}, the goal {goals[it]}" for which, it in wrong)
+
+
 def main(words):
     if words != ["check"]:
         print(__doc__, file=sys.stderr)
@@ -77,7 +103,7 @@ def main(words):
         wrong += bool(found)
         if found:
             print(f"{name}: {', '.join(found)}")
-    long = [*long_pages(), *unread_rows()]
+    long = [*long_pages(), *unread_rows(), *grown_habits()]
     print(*long, f"layout.py: {len(names)} files, {wrong + len(long)} to mend", sep="\n")
     return 1 if wrong or long else 0
 

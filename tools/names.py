@@ -11,7 +11,7 @@ import sys
 TOP = os.path.dirname(os.path.dirname(os.path.abspath(__file__)))
 WORD = r"[A-Za-z_][A-Za-z0-9_]*"
 # The pages that name definitions, clauses and functions.
-PAGES = ["crates", "headline", "library", "limits", "meaning", "passes", "proved", "walks", "why-trust-it"]
+PAGES = ["crates", "headline", "library", "limits", "meaning", "passes", "proved", "walks", "when-a-proof-fails", "why-trust-it"]
 # What a page may name that no source of this repository has: names of the kit, and letters that stand for any name.
 FOREIGN = {"antt", "rattle", "liblibc_c", "libos_c", "NAME", "NAMERun", "NAME_tests", "run_NAME", "PATH", "A", "B", "P", "S", "T", "Trait", "xs", "ys", "zs"}
 

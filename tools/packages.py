@@ -13,6 +13,7 @@ import shutil
 import subprocess
 import sys
 
+import bill
 import built
 import release
 from built import TOP
@@ -57,7 +58,7 @@ def control(name, processor, needed, says, size):
     depends = f"Depends: libc6 (>= {least})\n" if least else ""
     section = "sound" if name == "larboardyuzu" else "libdevel"
     return (f"Package: {name}\nVersion: {built.version()}\nArchitecture: {processor}\nMaintainer: {MAINTAINER}\nInstalled-Size: {size}\n"
-            f"{depends}Section: {section}\nPriority: optional\nDescription: {says}")
+            f"{depends}Section: {section}\nPriority: optional\nHomepage: {bill.HOME}\nDescription: {says}")
 
 
 def folders(processor):
@@ -95,11 +96,29 @@ def overrides(name):
     return "\n".join(f"# {why}\n{name}: {tag}" for tag, why in FOUND[name])
 
 
+def sums_of(stage):
+    """The text of md5sums: each file of a package, with its sum."""
+    files = sorted(os.path.relpath(f"{at}/{it}", stage) for at, _, names in os.walk(stage) for it in names)
+    for it in (it for it in files if not os.path.islink(f"{stage}/{it}")):
+        with open(f"{stage}/{it}", "rb") as file:
+            yield f"{hashlib.md5(file.read()).hexdigest()}  {it}"
+
+
+def symbols():
+    """The lines of the symbols file: each call of the header, as the map of the shared library versions it, and since when it is there."""
+    node = re.match(r"\w+", built.read("c/larboardyuzu.map").decode())[0]
+    text = re.sub(r"(?s)/\*.*?\*/", "", built.read("include/larboardyuzu.h").decode())
+    yield f"liblarboardyuzu.so.{os.path.splitext(built.version())[0]} liblarboardyuzu-dev #MINVER#"
+    yield f" {node}@{node} {built.version()}"
+    yield from (f" {it}@{node} {built.version()}" for it in sorted(set(re.findall(r"\b(larboardyuzu_\w+)\(", text))))
+
+
 def describe_shared(folder):
     """Writes that the loader has to learn of the shared library, and on what a program that uses it depends."""
     soname = os.path.splitext(built.version())[0]
     release.write(f"{folder}/triggers", ["activate-noawait ldconfig"])
     release.write(f"{folder}/shlibs", [f"liblarboardyuzu {soname} liblarboardyuzu-dev (>= {built.version()})"])
+    release.write(f"{folder}/symbols", ["\n".join(symbols())])
 
 
 def compress(text, target):
@@ -112,7 +131,8 @@ def make(name, part, processor, needed, says):
     """Writes a package, and returns its path."""
     stage, target = f"{FOLDER}/{name}-{processor}", f"{FOLDER}/{name}_{built.version()}_{processor}.deb"
     shutil.rmtree(stage, ignore_errors=True)
-    env = {"PATH": os.environ["PATH"], "DESTDIR": stage, **folders(processor)}
+    # (dpkg has its own list of what is installed)
+    env = {"PATH": os.environ["PATH"], "DESTDIR": stage, "LIST": "none", **folders(processor)}
     env |= {"PROGRAM": needed[0].at()} if part == "program" else {"LIBRARY": os.path.dirname(needed[0].at())}
     subprocess.run([f"{TOP}/tools/install.sh", "install", part], env=env, check=True)
     if part == "program":
@@ -125,8 +145,9 @@ def make(name, part, processor, needed, says):
     if part == "program" or has_shared:
         os.makedirs(f"{stage}/usr/share/lintian/overrides")
         release.write(f"{stage}/usr/share/lintian/overrides/{name}", [overrides(name)])
-    size = size_of(stage)
+    size, sums = size_of(stage), "\n".join(sums_of(stage))
     os.makedirs(f"{stage}/DEBIAN")
+    release.write(f"{stage}/DEBIAN/md5sums", [sums])
     if has_shared:
         describe_shared(f"{stage}/DEBIAN")
     release.write(f"{stage}/DEBIAN/control", [control(name, processor, needed, says, size).rstrip("\n")])
@@ -143,6 +164,7 @@ def main(words):
         print(__doc__.strip(), file=sys.stderr)
         return 2
     os.makedirs(FOLDER, exist_ok=True)
+    print(*(f"deb: {it}\n" for it in release.differing()), sep="", end="")
     for name, part, processor, needed, says in packages():
         if lacking := [it for it in needed if not it.is_there()]:
             print(f"deb: without {name} for {processor}: `{lacking[0].by}` builds {lacking[0].path}")

@@ -1,9 +1,11 @@
 #!/usr/bin/env python3
-"""release.py pack|sums|compare: the archive of a release, and SHA256SUMS.
+"""release.py pack|sums|compare: the archive of a release, its bill of materials, and SHA256SUMS.
 
   release.py pack     writes out/larboardyuzu-VERSION.tar.gz of what is built and of the files of the repository that it needs. It refuses
-                      what is older than its sources, and files that aren't as git has them, unless UNCOMMITTED=1 is set. The same files
-                      and tools make the same archive, byte for byte: the time in it is SOURCE_DATE_EPOCH, by default that of the commit
+                      what is older than its sources, and files that aren't as git has them, unless UNCOMMITTED=1 is set. It says so where
+                      what is built differs from SHA256SUMS though it has the same sources. The same files and tools make the same archive,
+                      byte for byte: the time in it is SOURCE_DATE_EPOCH, by default that of the commit. Beside the archive it writes the bill
+                      of materials, which is in the archive too, and out/SHA256SUMS with the sums of both
   release.py sums     packs, and writes SHA256SUMS: the sums of the program, the libraries for C and the archive, each with that of its
                       sources
   release.py compare  compares what is built and packed with SHA256SUMS, wherever the sources are those of the sums; ends with 1 if
@@ -16,6 +18,7 @@ import shutil
 import subprocess
 import sys
 
+import bill
 import built
 from built import TOP
 
@@ -37,6 +40,16 @@ def name_of_release():
 
 def archive():
     return f"{TOP}/out/{name_of_release()}.tar.gz"
+
+
+def bill_beside():
+    """The bill of materials that lies beside the archive."""
+    return f"{TOP}/out/{name_of_release()}.spdx.json"
+
+
+def sums_beside():
+    """The sums that lie beside the archive."""
+    return f"{TOP}/out/SHA256SUMS"
 
 
 def git(*words):
@@ -73,7 +86,7 @@ def reasons_against():
 
 def sum_of_sources():
     """The sum of all that the archive is made of."""
-    return built.sum_of([*packed_files(), *DESCRIPTIONS], repr([(it.name, it.sum_of_sources()) for it in built.built()]))
+    return built.sum_of([*packed_files(), *DESCRIPTIONS, "tools/release.py", "tools/bill.py"], repr([(it.name, it.sum_of_sources()) for it in built.built()]))
 
 
 def epoch():
@@ -133,6 +146,7 @@ def fill(stage):
     os.symlink("../../docs/larboardyuzu.1", f"{stage}/man/man1/larboardyuzu.1")
     write(f"{stage}/NOTICES.txt", notices())
     write(f"{stage}/RELEASE.txt", about())
+    write(f"{stage}/{bill.NAME}", [bill.text()])
     shared = f"liblarboardyuzu.so.{built.version()}"
     if os.path.isfile(f"{stage}/lib/{shared}"):
         os.symlink(shared, f"{stage}/lib/{os.path.splitext(shared)[0]}")
@@ -148,8 +162,9 @@ def pack():
     """Writes the archive; one that was there before is gone, whatever comes of it."""
     target, room = archive(), f"{TOP}/out/release"
     shutil.rmtree(room, ignore_errors=True)
-    if os.path.exists(target):
-        os.remove(target)
+    for path in (target, bill_beside(), sums_beside()):
+        if os.path.exists(path):
+            os.remove(path)
     if against := list(reasons_against()):
         print(*(f"release: {it}" for it in against), sep="\n", file=sys.stderr)
         return False
@@ -166,7 +181,10 @@ def pack():
         os.remove(f"{target}.part")
         return False
     os.rename(f"{target}.part", target)
-    print(f"release: {os.path.relpath(target, TOP)}")
+    write(bill_beside(), [bill.text()])
+    with open(sums_beside(), "w", encoding="utf-8") as it:
+        it.writelines(f"{sum_of_file(path)}  {os.path.basename(path)}\n" for path in (target, bill_beside()))
+    print(*(f"release: {it}" for it in differing()), f"release: {os.path.relpath(target, TOP)}", sep="\n")
     return True
 
 
@@ -203,6 +221,15 @@ def files_with_sums():
     if is_packed():
         found.append((os.path.basename(archive()), archive(), sum_of_sources()))
     return found
+
+
+def differing():
+    """What is built here and isn't what SHA256SUMS has for the same sources and tools, as a program that nothing has proved, as lines."""
+    recorded = sums_in_repository()
+    for it in built.built() if recorded else []:
+        wanted = recorded.files.get(it.name)
+        if wanted and it.sum_of_sources() == recorded.sources.get(it.name) and sum_of_file(it.at()) != wanted:
+            yield f"{it.name} DIFFERS from SHA256SUMS, though it has the same sources: it isn't what the gate has built"
 
 
 def write_sums():

@@ -1,7 +1,9 @@
 #!/usr/bin/env python3
 """talk.py PROGRAM: holds conversations with the program over pipes that stay open. What a command puts has to be there before its input
 ends, each answer within a second. Every command is tried, to its end and ended by Ctrl-C while it waits; then 10,000 messages without a
-wait, a peer that reads slowly, and peers that close an end. The exit code is 1 if anything fails."""
+wait, a peer that reads slowly, and peers that close an end. Then what a command puts of a message can't be written, on a full disk or into a
+pipe that nobody reads, and more messages follow, or one that is refused: the run ends by that fault, at most one message later. The exit code
+is 1 if anything fails."""
 import os
 import pty
 import selectors
@@ -75,6 +77,37 @@ CASES = [
     (["clip"], [(CLIP[:30], {"output": b"resolution 96\n"}), (CLIP[30:], {"output": f"resolution 96\n48 32 {NOTE_LINE}".encode()})], 1),
     (["rehearse", SETUP], [(words("0000"), {}), (words("00"), {"output": b"0 asked\n"})], 0),
 ]
+
+STRAY = words("F7")
+TOO_LONG = words("F0010203040506")
+HIGH_BIT = words("20903C80")
+INCREMENT = words("B06000")
+START_OF_CLIP = b"SMF2CLIP" + words("00300060 F0200000 00000000 00000000 00000000")
+JOINED8 = words("500307AA BB000000 00000000 00000000")
+# The words of a command; the place that can't be written; two messages of which each puts something there, and one that is refused; and the
+# last line of a refusal right after the first message.
+UNWRITTEN = [
+    (["endpoint", SETUP], "output", DISCOVERY, DISCOVERY, HIGH_BIT, "refused HighBit at 16"),
+    (["endpoint", SETUP], "notes", DISCOVERY, DISCOVERY, HIGH_BIT, "refused HighBit at 16"),
+    (["translate", "down", "--folder", "F"], F0, NOTE, NOTE, HIGH_BIT, "refused HighBit at 8"),
+    (["translate", "down", "--folder", "F"], F0, NOTE, words("41903C00 C9240000"), HIGH_BIT, "refused HighBit at 8"),
+    (["translate", "down", "--folder", "F"], "notes", UTILITY, UTILITY, HIGH_BIT, "refused HighBit at 4"),
+    (["translate", "up"], "output", PIECE, PIECE, INCREMENT, "refused DataIncrement at 5"),
+    (["translate", "up"], "notes", STRAY, STRAY, INCREMENT, "refused DataIncrement at 3"),
+    (["translate", "back"], "output", PIECE, PIECE, INCREMENT, "refused DataIncrement at 5"),
+    (["translate", "back"], "notes", STRAY, STRAY, INCREMENT, "refused DataIncrement at 3"),
+    (["show"], "output", NOTE, NOTE, HIGH_BIT, "refused HighBit at 8"),
+    (["show", "--bytes", "--room", "6"], "output", PIECE, PIECE, TOO_LONG + b"\x07", "refused ExclusiveTooLong at 10"),
+    (["usb", "pack", "--room", "6"], "output", PIECE, PIECE, TOO_LONG + b"\x07", "refused ExclusiveTooLong at 10"),
+    (["usb", "pack", "--room", "6"], "notes", STRAY, STRAY, TOO_LONG + b"\x07", "refused ExclusiveTooLong at 8"),
+    (["usb", "split", "--folder", "F"], F0, words("09903C64"), words("09903C64"), words("0990"), "refused Truncated at 4"),
+    (["usb", "split", "--folder", "F"], "notes", words("00000000"), words("00000000"), words("0990"), "refused Truncated at 4"),
+    (["sysex8", "--folder", "F"], F0, JOINED8, JOINED8, HIGH_BIT, "refused HighBit at 16"),
+    (["sysex8", "--folder", "F"], "notes", JOINED8, JOINED8, HIGH_BIT, "refused HighBit at 16"),
+    (["clip"], "output", START_OF_CLIP, words("00400030") + NOTE, HIGH_BIT, "refused HighBit at 28"),
+    (["rehearse", SETUP], "output", words("000000"), words("000000"), words("030000"), "refused BadEvent at 3"),
+]
+FAULTS = {"output": (4, "output write failed\n"), "notes": (5, ""), F0: (3, "lane write failed\n")}
 
 
 class Talk:
@@ -265,6 +298,61 @@ def connection():
     return peer.detach(), taken.detach(), [(2, READ_FAILED)]
 
 
+def unwritable(is_full):
+    """A full disk, or a pipe that nobody reads."""
+    if is_full:
+        return os.open("/dev/full", os.O_WRONLY)
+    reader, writer = os.pipe()
+    os.close(reader)
+    return writer
+
+
+def is_not_written(program, room, arguments, place, is_full, messages):
+    """Runs a command of which a place can't be written. Its input is a connection that keeps messages apart, and all are sent before the
+    program starts. So each read takes one, and what is put of it is written out before the next is read, however long that takes. Returns
+    the exit code, the listing, and how many messages were left."""
+    ours, theirs = socket.socketpair(socket.AF_UNIX, socket.SOCK_SEQPACKET)
+    for message in messages:
+        ours.send(message)
+    ours.close()
+    into = unwritable(is_full)
+    if place == F0:
+        os.symlink("/dev/full" if is_full else f"/proc/self/fd/{into}", f"{room}/{F0}")
+    with open(f"{room}/notes", "wb") as notes:
+        how = {"stdout": into if place == "output" else subprocess.DEVNULL, "stderr": into if place == "notes" else notes}
+        code = subprocess.run([program, *arguments], cwd=room, stdin=theirs, pass_fds=[into], timeout=60, check=False, **how).returncode
+    os.close(into)
+    left = 0
+    while theirs.recv(65536):
+        left += 1
+    theirs.close()
+    with open(f"{room}/notes", "rb") as notes:
+        return code, notes.read().decode(), left
+
+
+def ends_by_the_fault(program, room, arguments, place, is_full, messages, refusal, is_refused):
+    """What is wrong with a run whose first message can't be written out: the second ends it, whether or not it is refused."""
+    first, second, refused = messages
+    # An input that ends within an item is refused at its end, so nothing follows there.
+    after = [] if "Truncated" in refusal else [second]
+    given = [first, refused, *after] if is_refused else [first, second, refused, *after]
+    code, notes, left = is_not_written(program, room, arguments, place, is_full, given)
+    wanted, last = FAULTS[place]
+    ends = refusal + "\n" + last if is_refused and place != "notes" else last
+    is_well = code == wanted and notes.endswith(ends) and ("refused" in notes) == (is_refused and place != "notes")
+    return [f"exit code {code}, {left} messages left, {notes[-80:]!r}"] * (not is_well or left != len(given) - 2)
+
+
+def unwritten_trials(program):
+    for arguments, place, first, second, refused, refusal in UNWRITTEN:
+        for is_full in (True, False):
+            for is_refused in (False, True):
+                into = "on a full disk" if is_full else "into a pipe that nobody reads"
+                name = f"{' '.join(os.path.basename(it) for it in arguments)}, {place} {into}{', then a refusal' * is_refused}"
+                it = (arguments, place, is_full, (first, second, refused), refusal, is_refused)
+                yield name, lambda room, it=it: (ends_by_the_fault(program, room, *it), None)
+
+
 def trials(program):
     """The name of each trial, and a call that says what is wrong with it and how long its slowest answer took."""
     for arguments, turns, code in CASES:
@@ -280,6 +368,7 @@ def trials(program):
     yield "the peer closes a lane", lambda room: (closes_lane(program, room), None)
     yield "the input is a terminal that goes", lambda room: (input_goes(program, room, *terminal()), None)
     yield "the input is a connection that is reset", lambda room: (input_goes(program, room, *connection()), None)
+    yield from unwritten_trials(program)
 
 
 def main(program):

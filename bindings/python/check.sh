@@ -28,7 +28,7 @@ compares() { # EXAMPLE: runs it over standard input, and compares what it prints
 
 runs tests -m unittest discover -s "$here/tests"
 # the library as the loader finds it, by its name with the version of its binary interface
-LARBOARDYUZU_LIBRARY= LD_LIBRARY_PATH="$libdir" runs "by the name of the library" -c 'import larboardyuzu'
+LARBOARDYUZU_LIBRARY='' LD_LIBRARY_PATH="$libdir" runs "by the name of the library" -c 'import larboardyuzu'
 # what would be installed, if the tool that builds it is there
 if python3 -c 'import sys, setuptools; sys.exit(int(setuptools.__version__.split(".")[0]) < 61)' 2>/dev/null; then
     cp -R "$here" "$room/package"

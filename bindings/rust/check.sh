@@ -35,6 +35,14 @@ runs "tests, shared library" cargo test -q --offline --locked --tests
 export LARBOARDYUZU_LINK=static
 runs "tests and documentation, archive" cargo test -q --offline --locked
 compares down </dev/null
+# a program without std, whose memory the library takes from a block of its own
+cargo run -q --offline --locked --manifest-path "$examples/rust/firmware/Cargo.toml" >"$out/printed" || { echo "Rust: firmware fails"; exit 1; }
+cmp "$out/printed" "$examples/rust/expected/firmware" || { echo "Rust: firmware prints"; cat "$out/printed"; exit 1; }
+if command -v nm >/dev/null 2>&1 && nm -u "$CARGO_TARGET_DIR/debug/firmware" | grep -wE 'malloc|realloc|free'; then
+    echo "Rust: firmware asks for memory of the C library"
+    exit 1
+fi
+echo "Rust: firmware: ok"
 if command -v pkg-config >/dev/null 2>&1; then
     version=$(sed -n 's/^version = "\(.*\)"/\1/p' Cargo.toml)
     printf 'libdir=%s\nName: larboardyuzu\nDescription: the library\nVersion: %s\n' "$libdir" "$version" >"$out/larboardyuzu.pc"

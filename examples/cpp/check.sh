@@ -14,11 +14,13 @@ top=$here/../..
 out=$(mktemp -d)
 trap 'rm -rf "$out"' EXIT
 STRICT=${STRICT:--Wall -Wextra -Wpedantic -Wconversion -Wshadow -Werror}
-flags="-O2 -g $STRICT -I$top/include"
+# compile WORDS..: with the flags, of which STRICT has several in one
+# shellcheck disable=SC2086
+compile() { set -- -O2 -g $STRICT "-I$top/include" "$@" && "$CXX" "$@"; }
 wraps=-Wl,--wrap=malloc,--wrap=realloc,--wrap=free
 
-"$CXX" -std=c++17 $flags -fno-exceptions -fno-rtti -fsyntax-only -x c++ "$top/include/larboardyuzu.hpp"
-"$CXX" -std=c++17 $flags -fno-exceptions "$here/down.cpp" "$lib" -o "$out/down"
+compile -std=c++17 -fno-exceptions -fno-rtti -fsyntax-only -x c++ "$top/include/larboardyuzu.hpp"
+compile -std=c++17 -fno-exceptions "$here/down.cpp" "$lib" -o "$out/down"
 "$out/down" >"$out/printed" || { echo "C++: down.cpp fails"; exit 1; }
 cmp "$out/printed" "$here/expected/down" || { echo "C++: down.cpp prints"; cat "$out/printed"; exit 1; }
 echo "C++: down.cpp: ok"
@@ -27,15 +29,19 @@ for standard in c++17 c++20; do
         echo "C++: $standard: skipped, $CXX doesn't have it"
         continue
     fi
-    "$CXX" -std=$standard $flags "$here/tests/members.cpp" "$lib" -o "$out/members"
+    compile -std=$standard "$here/views.cpp" "$lib" -o "$out/views"
+    "$out/views" >"$out/printed" || { echo "C++: views.cpp fails"; exit 1; }
+    cmp "$out/printed" "$here/expected/views" || { echo "C++: views.cpp prints"; cat "$out/printed"; exit 1; }
+    echo "C++: views.cpp, $standard: ok"
+    compile -std=$standard "$here/tests/members.cpp" "$lib" -o "$out/members"
     "$out/members" "$top/examples/endpoint.toml"
-    "$CXX" -std=$standard $flags -pthread "$here/host/host_test.cpp" "$lib" $wraps -o "$out/host"
+    compile -std=$standard -pthread "$here/host/host_test.cpp" "$lib" $wraps -o "$out/host"
     "$out/host"
 done
 if echo 'int main() {}' | "$CXX" -fsanitize=address,undefined -x c++ - -o "$out/empty" 2>/dev/null; then
-    "$CXX" -std=c++17 $flags -fsanitize=address,undefined -fno-sanitize-recover=all "$here/tests/members.cpp" "$lib" -o "$out/members"
+    compile -std=c++17 -fsanitize=address,undefined -fno-sanitize-recover=all "$here/tests/members.cpp" "$lib" -o "$out/members"
     "$out/members" "$top/examples/endpoint.toml" >"$out/printed"
-    "$CXX" -std=c++17 $flags -DUNCOUNTED -pthread -fsanitize=thread,undefined -fno-sanitize-recover=all "$here/host/host_test.cpp" "$lib" -o "$out/host"
+    compile -std=c++17 -DUNCOUNTED -pthread -fsanitize=thread,undefined -fno-sanitize-recover=all "$here/host/host_test.cpp" "$lib" -o "$out/host"
     "$out/host" 200 >"$out/printed"
     echo "C++: sanitizers: ok"
 else

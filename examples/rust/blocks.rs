@@ -19,7 +19,7 @@ impl Cutter {
     fn words(&mut self, more: &[u8]) -> Vec<u32> {
         self.bytes.extend_from_slice(more);
         let mut words = vec![0; self.bytes.len() / 4];
-        let block = packets_in(&self.bytes, Flags::NONE, &mut words);
+        let block = packets_in(&self.bytes, &mut words, Flags::NONE);
         self.bytes.drain(..block.taken);
         words.truncate(block.written);
         words

@@ -1,7 +1,8 @@
+# shellcheck shell=dash disable=SC2016,SC2086,SC2231
 # tests.sh TEST..: the tests inside the virtual machine: setups, live, usb or unplug. /inputs has what inputs.py wrote, /program is the
 # program, and everything that happens is left in /results for check.py.
 if [ $# = 0 ]; then
-  sed -n '1,2s/^# //p' "$0" >&2
+  sed -n '2,3s/^# //p' "$0" >&2
   exit 2
 fi
 port=/sys/bus/usb/devices/1-0:1.0/usb1-port1

@@ -26,6 +26,7 @@ from ._results import (
     Block,
     Carried,
     Cut,
+    DownTranslation,
     Fact,
     FactKind,
     Heard,
@@ -40,6 +41,7 @@ from ._results import (
     Refused,
     Replies,
     Status,
+    UpTranslation,
 )
 
 __version__ = "0.3.0"
@@ -55,6 +57,7 @@ __all__ = [
     "Carried",
     "Cut",
     "Down",
+    "DownTranslation",
     "Endpoint",
     "Fact",
     "FactKind",
@@ -74,6 +77,7 @@ __all__ = [
     "Status",
     "Sysex8",
     "Up",
+    "UpTranslation",
     "Usb",
     "exclusive_packets",
     "packet_line",

@@ -8,9 +8,11 @@ from types import TracebackType
 from typing import Any, Callable, ClassVar, Generic, List, Optional, Tuple, Type, TypeVar, Union
 
 from . import _interface, _numbers
+from ._bulk import MORE, Bulk, translated_down, translated_up
 from ._library import Bytes, Words, byte_buffer, bytes_of, call, u8, u32, u64, word_buffer, words_of
 from ._results import (
     Block,
+    DownTranslation,
     Fact,
     FactKind,
     Heard,
@@ -26,6 +28,8 @@ from ._results import (
     Refused,
     Replies,
     Status,
+    UpTranslation,
+    must_be_open,
 )
 
 _Self = TypeVar("_Self", bound="_Handle")
@@ -37,12 +41,6 @@ _MORE, _ITEMS, _CHUNK = 4096, 256, 4096
 def _must(status: int, offset: Optional[int] = None, need: int = 0) -> None:
     if status != _numbers.DONE:
         raise Refused(Status(status), offset, need if status == _numbers.SMALL_BUFFER else None)
-
-
-def _must_be_open(status: int) -> None:
-    """Raises Refused if the handle is closed, or if a state takes the other kind of input: nothing was taken."""
-    if status in (_numbers.HANDLE_CLOSED, _numbers.OTHER_KIND):
-        raise Refused(Status(status))
 
 
 def _numbered(number: int) -> Optional[int]:
@@ -141,7 +139,7 @@ class _Taker(_Handle, Generic[Item]):
                 _ITEMS,
                 byref(block),
             )
-            _must_be_open(status)
+            must_be_open(status)
             start = 0
             for item in self._items[: block.items]:
                 items.append(self._item(item, start))
@@ -228,7 +226,16 @@ class Down(_OfPackets[Piece]):
     def __init__(self, room: int = 1024, *, compact: bool = False, paired: bool = False) -> None:
         flags = (_numbers.COMPACT if compact else 0) | (_numbers.PAIRED if paired else 0)
         super().__init__(call("down_open"), u32("room", room), flags)
+        self._room = room
+        self._bulk: Optional[Bulk] = None
         self._with_buffer(byte_buffer(call("down_size")(room) + _MORE))
+
+    def translate(self, words: Words, offset: int = 0) -> DownTranslation:
+        """Translates all packets of an array, and goes on after each refusal. offset is that of the first; each word adds 4. It makes an
+        object for each line and each refusal, but none for a packet, so use it for many packets: array("I") isn't copied."""
+        if self._bulk is None:
+            self._bulk = Bulk(_interface.Piece, byte_buffer(call("down_size")(self._room) + MORE))
+        return translated_down(self._raw, self._bulk, words, u64("offset", offset))
 
     def begun(self, group: int) -> Optional[int]:
         """The offset at which the exclusive began that a group has open, or None."""
@@ -250,8 +257,16 @@ class Up(_OfBytes[Raised]):
     def __init__(self, group: int = 0, room: int = 1024, *, paired: bool = False) -> None:
         flags = _numbers.PAIRED if paired else 0
         super().__init__(call("up_open"), u8("group", group), u32("room", room), flags)
-        self._group = group
+        self._group, self._room = group, room
+        self._bulk: Optional[Bulk] = None
         self._with_buffer(word_buffer(call("up_size")(room) + _MORE))
+
+    def translate(self, data: Bytes, offset: int = 0) -> UpTranslation:
+        """Translates all bytes of an array, and goes on after each refusal. offset is that of the first; each byte adds 1. It makes an object
+        for each line and each refusal, but none for a packet, so use it for many bytes."""
+        if self._bulk is None:
+            self._bulk = Bulk(_interface.Outcome, word_buffer(call("up_size")(self._room) + MORE))
+        return translated_up(self._raw, self._bulk, data, u64("offset", offset), self._group)
 
     def _item(self, item: _interface.Outcome, start: int) -> Raised:
         return Raised(item.offset, self._buffer[start : start + item.written], self._lines(item))
@@ -431,7 +446,7 @@ class State(_Handle):
     def _taken(self, name: str, held: Any, count: int, step: int) -> Block[None]:
         block = _interface.Block()
         status = call(name)(self._raw, held, count, byref(block))
-        _must_be_open(status)
+        must_be_open(status)
         error = None
         if status != _numbers.DONE:
             error = Refused(Status(status), step * (block.taken - block.refused))

@@ -1,4 +1,4 @@
-"""The numbers of include/larboardyuzu.h: the names of the header without LARBOARDYUZU_. bindings/compare.py compares them with it."""
+"""The numbers of include/larboardyuzu.h: the names of the header without LARBOARDYUZU_. bindings/generate.py makes this file."""
 
 VERSION = 0x000300
 

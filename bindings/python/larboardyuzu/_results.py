@@ -11,6 +11,7 @@ from . import _numbers
 class Status(IntEnum):
     """Why a call was refused. docs/c-library.md says what has changed after a refusal."""
 
+    # generate.py: enum larboardyuzu_status
     DONE = _numbers.DONE
     NO_MEMORY = _numbers.NO_MEMORY
     HANDLE_CLOSED = _numbers.HANDLE_CLOSED
@@ -35,6 +36,7 @@ class Status(IntEnum):
     BAD_FLAGS = _numbers.BAD_FLAGS
     BAD_SIZE = _numbers.BAD_SIZE
     BAD_CHANNEL = _numbers.BAD_CHANNEL
+    # generate.py: end
 
 
 def _word(name: str) -> str:
@@ -47,6 +49,7 @@ class Kind(IntEnum):
 
     name: the library's, such as NOTE_ATTRIBUTE. word: the program's in its listing, such as note-attribute."""
 
+    # generate.py: enum larboardyuzu_kind
     UTILITY = _numbers.UTILITY
     STREAM = _numbers.STREAM
     RESERVED = _numbers.RESERVED
@@ -68,6 +71,7 @@ class Kind(IntEnum):
     CUT_MESSAGE = _numbers.CUT_MESSAGE
     OPEN_MESSAGE = _numbers.OPEN_MESSAGE
     IGNORED_DATA_ENTRY = _numbers.IGNORED_DATA_ENTRY
+    # generate.py: end
 
     @property
     def word(self) -> str:
@@ -79,6 +83,7 @@ class Heard(IntEnum):
 
     name: the library's, such as NOT_CI. word: the program's in its listing, such as not-ci."""
 
+    # generate.py: enum larboardyuzu_heard
     NOT_CI = _numbers.HEARD_NOT_CI
     SHORT = _numbers.HEARD_SHORT
     BAD_ADDRESS = _numbers.HEARD_BAD_ADDRESS
@@ -96,6 +101,7 @@ class Heard(IntEnum):
     NAK = _numbers.HEARD_NAK
     NO_ANSWER = _numbers.HEARD_NO_ANSWER
     BAD_FORMAT = _numbers.HEARD_BAD_FORMAT
+    # generate.py: end
 
     @property
     def word(self) -> str:
@@ -105,6 +111,7 @@ class Heard(IntEnum):
 class FactKind(IntEnum):
     """What a fact is about."""
 
+    # generate.py: enum larboardyuzu_fact_kind
     ON = _numbers.FACT_ON
     OFF = _numbers.FACT_OFF
     MODE = _numbers.FACT_MODE
@@ -117,11 +124,13 @@ class FactKind(IntEnum):
     ASSIGNABLE = _numbers.FACT_ASSIGNABLE
     SYSTEM = _numbers.FACT_SYSTEM
     REAL_TIME = _numbers.FACT_REAL_TIME
+    # generate.py: end
 
 
 class Joined(IntEnum):
     """What a packet is to the 8-bit exclusive of its stream."""
 
+    # generate.py: enum larboardyuzu_joined
     OTHER = _numbers.JOINED_OTHER
     HELD = _numbers.JOINED_HELD
     WHOLE = _numbers.JOINED_WHOLE
@@ -130,6 +139,7 @@ class Joined(IntEnum):
     RESTARTED_WHOLE = _numbers.JOINED_RESTARTED_WHOLE
     FULL = _numbers.JOINED_FULL
     TOO_LONG = _numbers.JOINED_TOO_LONG
+    # generate.py: end
 
 
 class Refused(Exception):
@@ -153,6 +163,12 @@ class Refused(Exception):
         if self.offset is not None:
             parts.append(f"at {self.offset}")
         return " ".join(parts)
+
+
+def must_be_open(status: int) -> None:
+    """Raises Refused if the handle is closed, or if a state takes the other kind of input: nothing was taken."""
+    if status in (_numbers.HANDLE_CLOSED, _numbers.OTHER_KIND):
+        raise Refused(Status(status))
 
 
 class Line(NamedTuple):
@@ -227,8 +243,25 @@ class Fact(NamedTuple):
     bank: Optional[Tuple[int, int]]  # the bank of a program (MSB, LSB), if it has one
     parameter_bank: Optional[int]  # the MSB of the parameter's number
     value: Optional[int]  # 7 or 14 bits after bytes, 16 or 32 after packets
-    count: int  # how many system messages, at most 2**64 - 1
+    count: int  # type: ignore[assignment]  # how many system messages, at most 2**64 - 1; a tuple has a method of that name
     is_loose: bool  # a relative change came after the value
+
+
+class DownTranslation(NamedTuple):
+    """What an array of packets became on the way down."""
+
+    lanes: List[bytes]  # sixteen: the MIDI 1.0 stream of each group
+    lines: List[Line]
+    refused: List[Refused]  # each with its offset
+    taken: int  # how many words were taken; fewer than there are if the words of the last packet aren't all there
+
+
+class UpTranslation(NamedTuple):
+    """What an array of bytes became on the way up."""
+
+    words: Sequence[int]  # an array("I") of whole packets
+    lines: List[Line]
+    refused: List[Refused]  # each with its offset
 
 
 class Carried(NamedTuple):

@@ -60,6 +60,7 @@ macro_rules! errors {
 }
 
 errors! {
+    // generate.py: enum larboardyuzu_status
     /// The library was refused memory.
     NoMemory = NO_MEMORY,
     /// The handle is closed. No safe call returns it.
@@ -102,6 +103,7 @@ errors! {
     BadSize = BAD_SIZE,
     /// The channel isn't 0 to 15.
     BadChannel = BAD_CHANNEL,
+    // generate.py: end
 }
 
 /// `Ok` if the status is `DONE`.

@@ -18,6 +18,7 @@ pub struct Flags(u32);
 impl Flags {
     /// No flag.
     pub const NONE: Flags = Flags(0);
+    // generate.py: enum larboardyuzu_flag
     /// [`Down`](crate::Down): omit what the receiver of a lane already knows.
     pub const COMPACT: Flags = Flags(sys::COMPACT);
     /// [`Down`](crate::Down), [`Up`](crate::Up): controllers n and n + 32 are one controller of fourteen bits.
@@ -26,6 +27,7 @@ impl Flags {
     pub const OF_BYTES: Flags = Flags(sys::OF_BYTES);
     /// [`packets_in`](crate::packets_in): the least significant byte of each word comes first.
     pub const LITTLE_ENDIAN: Flags = Flags(sys::LITTLE_ENDIAN);
+    // generate.py: end
 
     /// The number that C has.
     #[must_use]

@@ -88,8 +88,8 @@ pub use flags::Flags;
 pub use names::{FactKind, Heard, Joined, Kind, Line};
 pub use parser::Parser;
 pub use pure::{
-    down_size, exclusive_packet, packet_line, packets_in, parser_size, scale_down, scale_up, sysex8_packet, up_size,
-    usb_carried, usb_size, version, words_in_packet, PacketLine,
+    down_size, exclusive_packet, exclusive_packets, packet_line, packets_in, packets_of, parser_size, scale_down,
+    scale_up, sysex8_packet, sysex8_packets, up_size, usb_carried, usb_size, version, words_in_packet, PacketLine,
 };
 pub use state::State;
 pub use sys::{Carried, Fact, Outcome, Part, Piece, Profile, Replies};

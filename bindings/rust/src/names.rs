@@ -44,6 +44,7 @@ numbers! {
     /// assert_eq!((Kind::NoteAttribute.number(), Kind::NoteAttribute.to_string().as_str()), (6, "NOTE_ATTRIBUTE"));
     /// ```
     Kind {
+        // generate.py: enum larboardyuzu_kind
         /// A utility packet.
         Utility = UTILITY,
         /// A stream message.
@@ -86,12 +87,14 @@ numbers! {
         OpenMessage = OPEN_MESSAGE,
         /// A data entry without a selected parameter.
         IgnoredDataEntry = IGNORED_DATA_ENTRY,
+        // generate.py: end
     }
 }
 
 numbers! {
     /// What an endpoint did with a stream message or a whole exclusive. docs/midi-ci.md explains each.
     Heard {
+        // generate.py: enum larboardyuzu_heard
         /// It is no MIDI-CI message.
         NotCi = HEARD_NOT_CI,
         /// The message ends before its fields do.
@@ -126,12 +129,14 @@ numbers! {
         NoAnswer = HEARD_NO_ANSWER,
         /// A stream message of one packet that says that it has more.
         BadFormat = HEARD_BAD_FORMAT,
+        // generate.py: end
     }
 }
 
 numbers! {
     /// What a [`Fact`](sys::Fact) is about.
     FactKind {
+        // generate.py: enum larboardyuzu_fact_kind
         /// A note on, also of a key that is up by now: `number` is the note, `value` its velocity.
         On = FACT_ON,
         /// A note off, the same.
@@ -156,12 +161,14 @@ numbers! {
         System = FACT_SYSTEM,
         /// The number of System Real Time messages, in `count`.
         RealTime = FACT_REAL_TIME,
+        // generate.py: end
     }
 }
 
 numbers! {
     /// What a packet is to the 8-bit exclusive of its stream.
     Joined {
+        // generate.py: enum larboardyuzu_joined
         /// It is no part of an 8-bit exclusive.
         NoPart = JOINED_OTHER,
         /// Its part is kept.
@@ -179,6 +186,7 @@ numbers! {
         /// It makes an exclusive longer than `room`, which is dropped. The calls of this crate return
         /// [`ExclusiveTooLong`](crate::Error::ExclusiveTooLong) instead.
         TooLong = JOINED_TOO_LONG,
+        // generate.py: end
     }
 }
 

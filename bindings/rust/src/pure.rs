@@ -3,6 +3,7 @@
 use crate::error::{answer, found, Result};
 use crate::{sys, Block, Carried, Flags};
 use core::fmt;
+use core::iter;
 use core::ops::Deref;
 use core::str::from_utf8;
 
@@ -79,11 +80,11 @@ sizes! {
 /// use larboardyuzu::{packets_in, Error, Flags};
 ///
 /// let mut words = [0; 8];
-/// let block = packets_in(&[0x20, 0x90, 0x3C, 0x64, 0x40, 0x90], Flags::NONE, &mut words);
+/// let block = packets_in(&[0x20, 0x90, 0x3C, 0x64, 0x40, 0x90], &mut words, Flags::NONE);
 /// assert_eq!((block.end, block.taken, block.written), (Err(Error::BadSize), 4, 1));
 /// assert_eq!(words[0], 0x2090_3C64);
 /// ```
-pub fn packets_in(bytes: &[u8], flags: Flags, words: &mut [u32]) -> Block {
+pub fn packets_in(bytes: &[u8], words: &mut [u32], flags: Flags) -> Block {
     let mut block = sys::Block::default();
     // SAFETY: the pointers and sizes are those of slices and of a struct, which don't overlap.
     let status = unsafe {
@@ -97,6 +98,26 @@ pub fn packets_in(bytes: &[u8], flags: Flags, words: &mut [u32]) -> Block {
         )
     };
     Block::of(status, block)
+}
+
+/// Returns the packets of words that follow each other (M2-104-UM, message types). The last one may have fewer words than its
+/// type has; [`Down::packet`](crate::Down::packet) then refuses it as `BadWordCount`.
+///
+/// ```
+/// use larboardyuzu::packets_of;
+///
+/// let words = [0x2090_3C64, 0x4090_3C00, 0xC924_0000, 0x40B0_0700];
+/// let lengths: Vec<_> = packets_of(&words).map(<[u32]>::len).collect();
+/// assert_eq!(lengths, [1, 2, 1]);
+/// ```
+pub fn packets_of(words: &[u32]) -> impl Iterator<Item = &[u32]> + Clone {
+    let mut rest = words;
+    iter::from_fn(move || {
+        let count = words_in_packet(*rest.first()?).min(rest.len());
+        let (packet, after) = rest.split_at(count);
+        rest = after;
+        Some(packet)
+    })
 }
 
 /// A packet, counted from 0, of a 7-bit exclusive with these bytes between F0 and F7 (M2-104-UM). `None`: it has no such packet.
@@ -123,6 +144,34 @@ pub fn exclusive_packet(group: u8, payload: &[u8], index: usize) -> Result<Optio
     found(status, words)
 }
 
+/// The packets that `cut` returns for the indices from 0 on, up to the first `None` or error.
+fn each_packet<const WORDS: usize>(
+    cut: impl Fn(usize) -> Result<Option<[u32; WORDS]>> + Clone,
+) -> impl Iterator<Item = Result<[u32; WORDS]>> + Clone {
+    let mut next = Some(0);
+    iter::from_fn(move || {
+        let index = next?;
+        let packet = cut(index).transpose();
+        next = matches!(packet, Some(Ok(_))).then_some(index + 1);
+        packet
+    })
+}
+
+/// Returns the packets of a 7-bit exclusive with these bytes between F0 and F7 (M2-104-UM), in order. An error is its only item:
+/// `BadGroup`, or `HighBit` if a byte of the payload is 128 or more.
+///
+/// ```
+/// use larboardyuzu::{exclusive_packets, Error};
+///
+/// let packets: Result<Vec<_>, _> = exclusive_packets(2, &[1, 2, 3, 4, 5, 6, 7]).collect();
+/// assert_eq!(packets?, [[0x3216_0102, 0x0304_0506], [0x3231_0700, 0]]); // a Start and an End
+/// assert!(exclusive_packets(16, &[1]).eq([Err(Error::BadGroup)]));
+/// # Ok::<(), Error>(())
+/// ```
+pub fn exclusive_packets(group: u8, payload: &[u8]) -> impl Iterator<Item = Result<[u32; 2]>> + Clone + '_ {
+    each_packet(move |index| exclusive_packet(group, payload, index))
+}
+
 /// A packet, counted from 0, of an 8-bit exclusive with these bytes (M2-104-UM). Each packet has thirteen bytes except the last.
 /// `None`: it has no such packet.
 ///
@@ -145,6 +194,20 @@ pub fn sysex8_packet(group: u8, stream: u8, payload: &[u8], index: usize) -> Res
         sys::larboardyuzu_sysex8_cut(group, stream, payload.as_ptr(), payload.len(), index, words.as_mut_ptr(), 4)
     };
     found(status, words)
+}
+
+/// Returns the packets of an 8-bit exclusive with these bytes (M2-104-UM), in order. An error, `BadGroup`, is its only item.
+///
+/// ```
+/// use larboardyuzu::{sysex8_packets, Error};
+///
+/// let packets: Result<Vec<_>, _> = sysex8_packets(0, 1, &[0xA0; 14]).collect();
+/// let first_words: Vec<_> = packets?.iter().map(|packet| packet[0]).collect();
+/// assert_eq!(first_words, [0x501E_01A0, 0x5032_01A0]); // a Start with thirteen bytes and an End with one, each with the stream id
+/// # Ok::<(), Error>(())
+/// ```
+pub fn sysex8_packets(group: u8, stream: u8, payload: &[u8]) -> impl Iterator<Item = Result<[u32; 4]>> + Clone + '_ {
+    each_packet(move |index| sysex8_packet(group, stream, payload, index))
 }
 
 /// What a USB-MIDI 1.0 event of four bytes carries. `None`: its code is reserved.

@@ -1,7 +1,7 @@
-//! The C interface: the numbers, structs and calls of `include/larboardyuzu.h`.
+//! The C interface: the numbers, structs and calls of `include/larboardyuzu.h`, and the heap of `larboardyuzu_heap.h`.
 //!
-//! `bindings/compare.py` compares this file with the header, and `c/interface.py` the header with the sources of the
-//! library. Each constant has the name of the header without `LARBOARDYUZU_`, each `#[repr(C)]` struct the fields of
+//! `bindings/generate.py` makes this file from the headers, and `c/interface.py` compares the header with the sources of
+//! the library. Each constant has the name of the header without `LARBOARDYUZU_`, each `#[repr(C)]` struct the fields of
 //! its counterpart.
 
 use core::ffi::c_void;
@@ -116,9 +116,9 @@ pub const MOST_REPLY_WORDS: usize = 1024;
 pub const MOST_SETUP_BYTES: usize = 65_536;
 pub const MOST_NOTES: u32 = 1_048_576;
 pub const MOST_PARAMS: u32 = 16_384;
+pub const NO_CHANNEL: u8 = 255;
 pub const MOST_NAME: usize = 32;
 pub const MOST_LINE: usize = 256;
-pub const NO_CHANNEL: u8 = 255;
 
 /// A handle of any kind: `larboardyuzu_down` to `larboardyuzu_usb` are this struct in C.
 #[repr(C)]
@@ -144,18 +144,6 @@ pub struct Line {
     pub kind: u8,
 }
 
-/// How far a block call came, as C has it.
-#[repr(C)]
-#[derive(Clone, Copy, Debug, Default, PartialEq, Eq)]
-pub struct Block {
-    pub taken: usize,
-    pub written: usize,
-    pub items: usize,
-    pub refused: usize,
-    pub need: usize,
-    pub need_items: usize,
-}
-
 /// What a byte of a MIDI 1.0 stream led to.
 #[repr(C)]
 #[derive(Clone, Copy, Debug, Default, PartialEq, Eq)]
@@ -170,6 +158,24 @@ pub struct Outcome {
     pub first: Line,
     /// If the byte cut something off, the line of the byte.
     pub second: Line,
+}
+
+/// How far a block call came, as C has it.
+#[repr(C)]
+#[derive(Clone, Copy, Debug, Default, PartialEq, Eq)]
+pub struct Block {
+    /// Words or bytes taken from the front of the input, including a refused one.
+    pub taken: usize,
+    /// Places written to the first buffer.
+    pub written: usize,
+    /// Items written to the second buffer.
+    pub items: usize,
+    /// The size of the refused packet or byte, which is the last part of `taken`; otherwise 0.
+    pub refused: usize,
+    /// With SMALL_BUFFER, if the first buffer is too small: the size that an empty buffer must have; otherwise 0.
+    pub need: usize,
+    /// With SMALL_BUFFER, if the second buffer is full: 1; otherwise 0.
+    pub need_items: usize,
 }
 
 /// What a packet became on the way down.
@@ -287,10 +293,6 @@ pub struct Carried {
 
 extern "C" {
     pub fn larboardyuzu_version() -> u32;
-
-    pub fn larboardyuzu_status_name(status: u32, text: *mut u8, size: usize, length: *mut usize) -> u32;
-    pub fn larboardyuzu_kind_name(kind: u32, text: *mut u8, size: usize, length: *mut usize) -> u32;
-    pub fn larboardyuzu_heard_name(heard: u32, text: *mut u8, size: usize, length: *mut usize) -> u32;
 
     pub fn larboardyuzu_down_size(room: u32) -> usize;
     pub fn larboardyuzu_down_open(down: *mut Handle, room: u32, flags: u32) -> u32;
@@ -479,6 +481,9 @@ extern "C" {
     pub fn larboardyuzu_usb_close(usb: *mut Handle);
     pub fn larboardyuzu_usb_carried(event: *const u8, size: usize, carried: *mut Carried) -> u32;
 
+    pub fn larboardyuzu_status_name(status: u32, text: *mut u8, size: usize, length: *mut usize) -> u32;
+    pub fn larboardyuzu_kind_name(kind: u32, text: *mut u8, size: usize, length: *mut usize) -> u32;
+    pub fn larboardyuzu_heard_name(heard: u32, text: *mut u8, size: usize, length: *mut usize) -> u32;
     pub fn larboardyuzu_words_in_packet(first: u32) -> u32;
     pub fn larboardyuzu_packets_in(
         bytes: *const u8,
@@ -506,4 +511,21 @@ extern "C" {
     ) -> u32;
     pub fn larboardyuzu_scale_up(value: u32, narrow: u8, wide: u8, scaled: *mut u32) -> u32;
     pub fn larboardyuzu_scale_down(value: u32, wide: u8, narrow: u8, scaled: *mut u32) -> u32;
+}
+
+// larboardyuzu_heap.h. The library defines these three over `malloc`. A program that is linked with the archive may define
+// all three itself, with `#[no_mangle]` (examples/rust/firmware); only calls that end in `_open` or `_close` call them.
+
+/// The result of an allocation. `at` is never null, even if the allocation failed.
+#[repr(C)]
+#[derive(Clone, Copy, Debug)]
+pub struct Given {
+    pub is_given: bool,
+    pub at: *mut c_void,
+}
+
+extern "C" {
+    pub fn rattle_alloc(size: usize, align: usize) -> Given;
+    pub fn rattle_realloc(at: *mut c_void, kept: usize, size: usize, align: usize) -> Given;
+    pub fn rattle_dealloc(at: *mut c_void);
 }

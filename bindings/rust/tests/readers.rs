@@ -160,15 +160,15 @@ fn packets_are_cut_from_bytes() {
     let big = [0x40, 0x90, 0x3C, 0x00, 0xC9, 0x24, 0x00, 0x00, 0x10, 0xF8, 0x00, 0x00];
     let little = [0x00, 0x3C, 0x90, 0x40, 0x00, 0x00, 0x24, 0xC9, 0x00, 0x00, 0xF8, 0x10];
     for (bytes, flags) in [(big, Flags::NONE), (little, Flags::LITTLE_ENDIAN)] {
-        let block = packets_in(&bytes, flags, &mut words);
+        let block = packets_in(&bytes, &mut words, flags);
         assert_eq!((block.end, block.taken, block.written), (Ok(()), 12, 3));
         assert_eq!(words[..3], [0x4090_3C00, 0xC924_0000, 0x10F8_0000]);
-        let block = packets_in(&bytes, flags, &mut words[..1]);
+        let block = packets_in(&bytes, &mut words[..1], flags);
         assert_eq!((block.end, block.taken, block.need), (Err(Error::SmallBuffer(2)), 0, 2));
-        let block = packets_in(&bytes[..11], flags, &mut words);
+        let block = packets_in(&bytes[..11], &mut words, flags);
         assert_eq!((block.end, block.taken, block.written), (Err(Error::BadSize), 8, 2));
     }
-    assert_eq!(packets_in(&big, Flags::COMPACT, &mut words).end, Err(Error::BadFlags));
+    assert_eq!(packets_in(&big, &mut words, Flags::COMPACT).end, Err(Error::BadFlags));
 }
 
 #[test]
@@ -179,6 +179,22 @@ fn an_exclusive_is_refused_at_its_first_packet() {
     assert_eq!(exclusive_packet(0, &payload, 2), Err(Error::HighBit));
     assert_eq!(exclusive_packet(0, &[], 0), Ok(Some([0x3000_0000, 0]))); // Complete, with no bytes
     assert_eq!(exclusive_packet(16, &[], 0), Err(Error::BadGroup));
+}
+
+#[test]
+fn iterators_over_packets() {
+    // A note of one word, a note of two, an 8-bit exclusive of four, and half a packet.
+    let words = [0x2090_3C64, 0x4090_3C00, 0xC924_0000, 0x5003_01A0, 0xA100_0000, 0, 0, 0x4090_3C00];
+    let packets: Vec<_> = packets_of(&words).collect();
+    assert_eq!(packets, [&words[..1], &words[1..3], &words[3..7], &words[7..]]);
+    assert_eq!(packets_of(&[]).count(), 0);
+    let payload: Vec<u8> = (0..20).collect();
+    let each: Vec<_> = (0..).map_while(|index| exclusive_packet(3, &payload, index).transpose()).collect();
+    assert_eq!((exclusive_packets(3, &payload).collect::<Vec<_>>(), each.len()), (each, 4));
+    let each: Vec<_> = (0..).map_while(|index| sysex8_packet(3, 9, &payload, index).transpose()).collect();
+    assert_eq!((sysex8_packets(3, 9, &payload).collect::<Vec<_>>(), each.len()), (each, 2));
+    assert!(exclusive_packets(0, &[1, 0x80]).eq([Err(Error::HighBit)]));
+    assert!(sysex8_packets(16, 0, &[]).eq([Err(Error::BadGroup)]));
 }
 
 #[test]

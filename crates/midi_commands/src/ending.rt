@@ -1,4 +1,4 @@
-// What comes after a run.
+// Ends a run: writes out what is buffered, and puts the last line of a fault at that.
 ghost use Rattle.std.specs.Prelude.{◌≡◌, ◌≢◌, true, false, []};
 ghost use Rattle.std.specs.Io.KnownBytes.{Keeps};
 ghost use Rattle.midi_edge.specs.Adapters.{IsWrittenOut, KeepsLanes, accepted, unwritten};
@@ -12,8 +12,8 @@ use outside::{Lanes, Sink};
 use std::io::{ErrorKind, Write};
 use std::rt::Files;
 
-/// Returns why the words of the command line can't be had: `Usage` if one isn't UTF-8, and `NoMemory` if
-/// there is no memory (own rule). Puts the last line in the notes.
+/// Returns the status if the words of the command line couldn't be read: `Usage` if a word isn't UTF-8, and
+/// `NoMemory` if memory ran out (own rule). Puts the last line in the notes.
 pub fn unread_words<N: Write>(kind: ErrorKind, notes: &mut WriteSink<N>) -> Status
     ensures memory { kind ≡ ErrorKind.OutOfMemory → result ≡ Status.NoMemory }
     ensures other { kind ≢ ErrorKind.OutOfMemory → result ≡ Status.Usage }
@@ -28,11 +28,13 @@ pub fn unread_words<N: Write>(kind: ErrorKind, notes: &mut WriteSink<N>) -> Stat
     status
 }
 
-/// Writes out what the objects have gathered, whatever the status, the notes last because the last line is
-/// in them, and returns the exit code. If the status isn't a fault, a fault at this writing becomes the
-/// status (own rule): that of the first of the lanes, the output and the notes that failed. Its last line, if
-/// it has one, is put after all that was put, and so after the last line of the status before. What was put
-/// before stays.
+/// Writes out the bytes that the objects have buffered, whatever the status, and returns the exit code. The
+/// notes come last, since the last line is in them.
+///
+/// If the status isn't a fault and this writing fails, the exit code is that of the fault (own rule): of the
+/// first of the lanes, the output and the notes that failed. The last line of the fault, if it has one, is
+/// put after everything else, and so after the last line of a refusal. Everything that was put before
+/// stays.
 pub fn finish<R: Files + AllocGlobal, O: Write, N: Write>(
     status: Status,
     lanes: &mut FolderLanes<R>,
@@ -65,7 +67,7 @@ pub fn finish<R: Files + AllocGlobal, O: Write, N: Write>(
         .exit_code()
 }
 
-// Writes out what the lanes and the output have gathered, and gives the status after that.
+// Writes out the bytes that the lanes and the output have buffered, and returns the status after that.
 fn write_out<R: Files + AllocGlobal, O: Write>(
     status: Status,
     lanes: &mut FolderLanes<R>,
@@ -100,7 +102,7 @@ fn tell_fault<N: Write>(status: Status, written: Status, notes: &mut WriteSink<N
     }
 }
 
-// Puts the last line of a status, if it has one. If that fails, the notes may have gained a front of the
+// Puts the last line of a status, if it has one. If that fails, the notes may have gained a prefix of the
 // line, and their count of faults has risen.
 fn tell_last<N: Write>(status: Status, notes: &mut WriteSink<N>)
     ensures { PutsLast status (accepted N.contents notes.old) (accepted N.contents notes.new)

@@ -1,18 +1,18 @@
-// How a run ends.
+// The status with which a run ends.
 ghost use Rattle.std.specs.Prelude.{◌≡◌, ◌≢◌, OnOk, OnErr, true, false};
 
 use outside::{Failed, OpenFault};
 use pass_loop::{Reason, RunEnd};
 use small_types::NoMemory;
 
-/// How a run ends.
+/// The status with which a run ends.
 #[derive(Clone, Copy, Debug, PartialEq, Eq)]
 pub enum Status {
-    /// The input was read to its end; a self test, which reads none, has put its line.
+    /// The input was read to its end. A self test, which reads none, has written its line.
     Done,
-    /// What stands at this offset is refused: a packet, a byte, an event, or the input if it ends within one
-    /// or passes its limit, or a clip that doesn't begin or end as it should. The offset is the number of
-    /// input bytes before it.
+    /// The packet, byte or event at this offset was refused, or the input ends within one or is longer than
+    /// its limit, or a clip doesn't begin or end as it should. The offset is the number of input bytes before
+    /// that place.
     Refused { reason: Reason, offset: u64 },
     /// A read failed.
     ReadFault,
@@ -24,13 +24,13 @@ pub enum Status {
     NoteFault,
     /// The setup could not be read.
     ShelfFault,
-    /// The words are no command.
+    /// The words of the command line are no command.
     Usage,
     /// The setup isn't UTF-8, or isn't TOML.
     SetupSyntax,
     /// The rule of this number, 0 to 31, is the first that the setup breaks.
     SetupField(u8),
-    /// There was no memory.
+    /// Memory ran out.
     NoMemory,
 }
 
@@ -48,7 +48,7 @@ impl Status {
     ghost use Rattle.midi_commands.specs.ExitCode.{exit_code_of, is_fault as is_fault_in};
     ghost use Rattle.midi_commands.specs.Run.{status_in};
 
-    /// The status for the end of a pass, or this status if the pass has none.
+    /// Returns the status for the end of a pass, or this status if the pass didn't run.
     pub(crate) fn of_end(ended: Result<RunEnd, Status>) -> Status
         ensures { result ≡ status_in ended }
     {
@@ -64,7 +64,7 @@ impl Status {
         }
     }
 
-    /// The status if the lanes could not be opened.
+    /// Returns the status if the lanes could not be opened.
     pub(crate) fn of_opening(fault: OpenFault) -> Status
         ensures failed { fault ≡ OpenFault.Failed → result ≡ Status.LaneFault }
         ensures memory { fault ≡ OpenFault.NoMemory → result ≡ Status.NoMemory }
@@ -75,7 +75,7 @@ impl Status {
         }
     }
 
-    /// The exit code (own rule): 0 for `Done`, 1 for `Refused`; 2 to 6 for faults of reading, of the lanes,
+    /// Returns the exit code (own rule): 0 for `Done`, 1 for `Refused`; 2 to 6 for faults of reading, of the lanes,
     /// of the output, of the notes and of the shelf; 7 for `Usage`, 8 for `SetupSyntax`, 9 for
     /// `SetupField`, 10 for `NoMemory`.
     pub fn exit_code(self) -> u8
@@ -96,7 +96,7 @@ impl Status {
         }
     }
 
-    /// Whether a read or a write failed: the exit code is then 2 to 6.
+    /// Returns whether a read or a write failed. The exit code is then 2 to 6.
     pub fn is_fault(self) -> bool
         ensures { result ≡ is_fault_in self }
     {
@@ -115,8 +115,8 @@ impl Status {
         }
     }
 
-    /// The status once an object has written out what it gathered: it becomes this fault if that failed,
-    /// unless it is a fault already.
+    /// Returns the status after an object has written out the bytes that it had buffered: this fault if the
+    /// writing failed and the status was no fault yet, and otherwise the status as it was.
     pub fn after_writing(self, answer: Result<(), Failed>, fault: Status) -> Status
         ensures written { OnOk answer (result ≡ self) }
         ensures fault { is_fault_in self ≡ false → OnErr answer (result ≡ fault) }

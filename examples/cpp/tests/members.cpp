@@ -33,6 +33,12 @@ static_assert(!std::is_constructible_v<Words, std::vector<std::uint8_t>> &&
               !std::is_constructible_v<Words, int>);
 static_assert(!std::is_constructible_v<View<std::uint8_t>, const std::vector<std::uint8_t> &>);
 static_assert(std::is_constructible_v<Bytes, const std::vector<std::uint8_t> &>);
+// Numbers in braces are words; they are no null pointer and a size, also of a buffer.
+static_assert(Words { 0, 1 }.size() == 2 && Words { 7 }.size() == 1 && Words {}.empty());
+template <class Any, class = decltype(Any { 0, 1 })> constexpr bool is_of_braces(int) { return true; }
+template <class Any> constexpr bool is_of_braces(...) { return false; }
+static_assert(is_of_braces<Words>(0) && is_of_braces<Bytes>(0) && !is_of_braces<View<std::uint8_t>>(0));
+static_assert(!std::is_constructible_v<View<std::uint8_t>, std::nullptr_t, std::size_t>);
 static_assert(!std::is_copy_constructible_v<Down> && std::is_nothrow_move_constructible_v<Down>);
 static_assert(down_size(6) == 12 && down_size(1024) == 1026 && up_size(13) == 6 && usb_size(6) == 12);
 
@@ -89,6 +95,7 @@ void views()
     CHECK(down.packet(note, 0, bytes)->written == 3);
     CHECK(down.packet(vector, 0, bytes)->written == 3);
     CHECK(down.packet({ vector.data(), 2 }, 0, { bytes.data(), bytes.size() })->written == 3);
+    CHECK(down.packet({ 0x40903C00, 0xC9240000 }, 0, bytes)->written == 3);
     CHECK(down.packet(Words(array).first(1), 0, bytes).status == Status::BadWordCount);
 #if __cplusplus >= 202002L
     CHECK(down.packet(std::span(vector), 0, std::span(bytes))->written == 3);

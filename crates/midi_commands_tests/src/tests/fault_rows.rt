@@ -148,11 +148,32 @@ pub(super) fn all_fail_in_turn(
     given: &str,
     steps: &str,
 ) -> Result<(), Fail> {
+    all_reads_fail_in_turn(rt, alloc, given, steps)?;
+    all_puts_fail_in_turn(rt, alloc, given, steps)
+}
+
+// Nothing fails, and then each read fails in turn.
+fn all_reads_fail_in_turn(
+    rt: &impl Abort,
+    alloc: Global,
+    given: &str,
+    steps: &str,
+) -> Result<(), Fail> {
     let steps = steps_of(alloc, steps)?;
     let said = said_of(alloc, &steps, "")?;
     let row = format!(in alloc; "{given}\nleaves Done{said}")?;
     row_holds(rt, alloc, row.as_str())?;
-    reads_fail_in_turn(rt, alloc, given, &steps)?;
+    reads_fail_in_turn(rt, alloc, given, &steps)
+}
+
+// Each put in each place fails in turn.
+fn all_puts_fail_in_turn(
+    rt: &impl Abort,
+    alloc: Global,
+    given: &str,
+    steps: &str,
+) -> Result<(), Fail> {
+    let steps = steps_of(alloc, steps)?;
     for place in PLACES {
         puts_fail_in_turn(rt, alloc, given, &steps, &place)?;
     }
@@ -266,8 +287,21 @@ fn each_read_and_put_fails_in_turn(rt: HostRuntime) -> Result<(), Fail> {
 }
 
 #[test]
-fn each_read_and_put_of_a_stream_fails_in_turn(rt: HostRuntime) -> Result<(), Fail> {
-    let alloc = rt.alloc();
-    all_fail_in_turn(&rt, alloc, RAISED, RAISED_STEPS)?;
-    all_fail_in_turn(&rt, alloc, RETURNED, RETURNED_STEPS)
+fn each_read_of_a_stream_that_is_raised_fails_in_turn(rt: HostRuntime) -> Result<(), Fail> {
+    all_reads_fail_in_turn(&rt, rt.alloc(), RAISED, RAISED_STEPS)
+}
+
+#[test]
+fn each_put_of_a_stream_that_is_raised_fails_in_turn(rt: HostRuntime) -> Result<(), Fail> {
+    all_puts_fail_in_turn(&rt, rt.alloc(), RAISED, RAISED_STEPS)
+}
+
+#[test]
+fn each_read_of_a_stream_that_comes_back_fails_in_turn(rt: HostRuntime) -> Result<(), Fail> {
+    all_reads_fail_in_turn(&rt, rt.alloc(), RETURNED, RETURNED_STEPS)
+}
+
+#[test]
+fn each_put_of_a_stream_that_comes_back_fails_in_turn(rt: HostRuntime) -> Result<(), Fail> {
+    all_puts_fail_in_turn(&rt, rt.alloc(), RETURNED, RETURNED_STEPS)
 }

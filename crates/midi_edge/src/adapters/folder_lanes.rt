@@ -14,15 +14,18 @@ use std::io::Write;
 use std::rt::Files;
 
 /// Sixteen files in a folder, `group-00.midi1` to `group-15.midi1`, one for each lane. `begin` creates or
-/// empties them; the folder must exist. It takes an empty buffer of 8,192 bytes for each file. An empty path
-/// is no folder, so opening it fails; if there is no memory to open the files, the answer is `NoMemory`. A
-/// small piece is gathered in the buffer, and written out when a later one doesn't fit. So an `Ok` of `put`
-/// says that the piece was accepted, and a fault shows at the `put` that writes out, or at `flush`. A fault
-/// takes nothing from what was accepted before: what it left unwritten is written out by the next call that
-/// writes to this lane. `write_out` writes out what is gathered before its time, and counts no fault here. If
-/// that fails at one lane, each later `put`, to whichever lane, and each `flush` fails, though `flush` still
-/// writes out what it can. What is still gathered when the lanes are dropped is lost, so call `flush` when
-/// all is put.
+/// empties them. The folder must exist. `begin` allocates a buffer of 8,192 bytes for each file. An empty
+/// path is no folder, so opening it fails. If memory runs out while the files are opened, the result is
+/// `NoMemory`.
+///
+/// A small piece is buffered, and written out when a later one doesn't fit. So an `Ok` of `put` means that
+/// the piece was accepted, and a fault shows at the `put` that writes out, or at `flush`. A fault loses
+/// nothing that was accepted before: the next call that writes to this lane writes out the bytes that the
+/// fault left in the buffer.
+///
+/// `write_out` writes the buffered bytes early, and counts no fault. If that fails at one lane, each later
+/// `put`, to whichever lane, and each `flush` fails, though `flush` still writes out as much as it can.
+/// Bytes that are still buffered when the lanes are dropped are lost, so call `flush` after the last `put`.
 #[derive(Drop)]
 pub struct FolderLanes<R: Files + AllocGlobal> {
     rt: R,
@@ -33,7 +36,8 @@ pub struct FolderLanes<R: Files + AllocGlobal> {
 }
 
 impl<R: Files + AllocGlobal> FolderLanes<R> {
-    /// Lanes that are not yet opened, and take no memory. Nothing is gathered yet, and no fault counted.
+    /// Creates lanes that are not yet opened, and take no memory. Nothing is buffered yet, and no fault is
+    /// counted.
     pub fn new(rt: R) -> Self
         ensures folder { ⟦<FolderLanes<R> as Lanes>⟧.folder result ≡ None }
         ensures begun { ⟦<FolderLanes<R> as Lanes>⟧.begun result ≡ false }
@@ -51,16 +55,17 @@ impl<R: Files + AllocGlobal> FolderLanes<R> {
         }
     }
 
-    /// How often they have failed, up to the last `u64`.
+    /// Returns the number of faults of the lanes, which saturates at `u64::MAX`.
     pub fn faults(&self) -> u64
         ensures { result ≡ ⟦<FolderLanes<R> as Lanes>⟧.faults self.now }
     {
         self.faults
     }
 
-    /// Writes out what is gathered, of every lane, also after one that fails. After an `Err` what is not yet
-    /// written stays gathered, and a later call goes on from there. An `Err` comes too if `write_out` has
-    /// failed before, also if everything is written out now. Before `begin` there is nothing to write.
+    /// Writes out the buffered bytes of every lane, even after a lane that fails. After an `Err` the bytes
+    /// that aren't written yet stay buffered, and a later call continues from there. The call also returns
+    /// `Err` if `write_out` has failed before, even if everything is written out now. Before `begin` there is
+    /// nothing to write.
     pub fn flush(&mut self) -> Result<(), Failed>
         ensures begun { ⟦<FolderLanes<R> as Lanes>⟧.begun self.new
             ≡ ⟦<FolderLanes<R> as Lanes>⟧.begun self.old }
@@ -82,7 +87,7 @@ impl<R: Files + AllocGlobal> FolderLanes<R> {
     }
 }
 
-// Flushes every sink, and answers the first fault.
+// Flushes every sink, and returns the first fault.
 fn flush_each<W: Write>(sinks: &mut [WriteSink<W>]) -> Result<(), Failed>
     ensures count { length sinks.new ≡ length sinks.old }
     ensures keeps { KeepsEach W.contents sinks.old sinks.new }

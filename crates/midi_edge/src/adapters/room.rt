@@ -1,7 +1,7 @@
-// How many bytes a sink may gather.
+// The number of bytes that a sink may buffer.
 ghost use Rattle.std.specs.Prelude.{◌≡◌, ◌≤◌};
 
-/// How many bytes a sink may gather, at most 8,192.
+/// The number of bytes that a sink may buffer, at most 8,192.
 #[derive(Clone, Copy)]
 pub struct Room {
     /// The number of bytes.
@@ -10,14 +10,14 @@ pub struct Room {
 }
 
 impl Room {
-    /// For as many bytes as the buffer holds.
+    /// Returns the room for as many bytes as the buffer holds.
     pub fn whole() -> Self
         ensures { result.bytes ≡ 8192 }
     {
         Room { bytes: 8192 }
     }
 
-    /// For none.
+    /// Returns the room for no byte.
     pub fn none() -> Self
         ensures { result.bytes ≡ 0 }
     {

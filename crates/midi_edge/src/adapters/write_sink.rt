@@ -12,23 +12,25 @@ use small_types::ByteBuffer;
 use std::io;
 use std::io::{ErrorKind, Write};
 
-/// A sink over any writer, which gathers small pieces, up to 8,192 bytes, and writes them out when the next
-/// piece has no room. So an `Ok` of `put` says that the piece was accepted, and a fault shows at the `put`
-/// that makes room, or at `flush`. A fault takes nothing from what was accepted before: what it left
-/// unwritten is written out by the next call that writes. `write_out` writes out what is gathered before its
-/// time, and counts no fault. If that fails, each later `put` and `flush` fails, though `flush` still writes
-/// out what it can. What is still gathered when the sink is dropped is lost, so call `flush` when all is put.
+/// A sink over any writer. It buffers small pieces, up to 8,192 bytes, and writes them out when the next
+/// piece has no room. So an `Ok` of `put` means that the piece was accepted, and a fault shows at the `put`
+/// that makes room, or at `flush`. A fault loses nothing that was accepted before: the next call that writes
+/// writes out the bytes that the fault left in the buffer.
+///
+/// `write_out` writes the buffered bytes early, and counts no fault. If that fails, each later `put` and
+/// `flush` fails, though `flush` still writes out as much as it can. Bytes that are still buffered when the
+/// sink is dropped are lost, so call `flush` after the last `put`.
 #[derive(Drop)]
 pub struct WriteSink<W: Write> {
     writer: W,
     gathered: ByteBuffer<CAPACITY>,
-    // None after `write_out` has failed.
+    // It has no room after `write_out` has failed.
     room: Room,
     faults: u64,
 }
 
 impl<W: Write> WriteSink<W> {
-    /// A sink that puts into the writer. Nothing is gathered yet, and no fault counted.
+    /// Creates a sink that writes to the writer. Nothing is buffered yet, and no fault is counted.
     pub fn new(writer: W) -> Self
         ensures empty { unwritten result ≡ [] }
         ensures holds { accepted W.contents result ≡ W.contents writer }
@@ -43,16 +45,16 @@ impl<W: Write> WriteSink<W> {
         }
     }
 
-    /// The number of failed writes, saturating at `u64::MAX`.
+    /// Returns the number of failed writes, which saturates at `u64::MAX`.
     pub fn faults(&self) -> u64
         ensures { result ≡ ⟦<WriteSink<W> as Sink>⟧.faults self.now }
     {
         self.faults
     }
 
-    /// Writes out what is gathered, and flushes the writer. After an `Err` what is not yet written stays
-    /// gathered, and a later call goes on from there. An `Err` comes too if `write_out` has failed before,
-    /// also if everything is written out now.
+    /// Writes out the buffered bytes, and flushes the writer. After an `Err` the bytes that aren't written
+    /// yet stay buffered, and a later call continues from there. The call also returns `Err` if `write_out`
+    /// has failed before, even if everything is written out now.
     pub fn flush(&mut self) -> Result<(), Failed>
         ensures bytes { Keeps (accepted W.contents self.old) (accepted W.contents self.new) }
         ensures written { OnOk result (unwritten self.new ≡ []) }
@@ -69,7 +71,7 @@ impl<W: Write> WriteSink<W> {
         counted(answer, &mut self.faults)
     }
 
-    /// Writes out what is gathered, and flushes the writer, whether or not `write_out` has failed before.
+    /// Writes out the buffered bytes, and flushes the writer, whether or not `write_out` has failed before.
     pub(super) fn flush_anyway(&mut self) -> Result<(), Failed>
         ensures bytes { Keeps (accepted W.contents self.old) (accepted W.contents self.new) }
         ensures written { OnOk result (unwritten self.new ≡ []) }
@@ -97,7 +99,7 @@ impl<W: Write> WriteSink<W> {
         self.room = Room::none();
     }
 
-    // Accepts a piece that the room for gathered bytes doesn't take, and counts a fault.
+    // Accepts a piece for which the buffer has no room, and counts a fault.
     #[inline(never)]
     fn put_after(&mut self, piece: &[u8]) -> Result<(), Failed>
         requires { 0 < length piece.now }
@@ -111,7 +113,7 @@ impl<W: Write> WriteSink<W> {
         counted(answer, &mut self.faults)
     }
 
-    // Writes out what is gathered, and then writes or gathers the piece, unless `write_out` has failed.
+    // Writes out the buffered bytes, and then writes or buffers the piece, unless `write_out` has failed.
     fn write_after(&mut self, piece: &[u8]) -> io::Result<()>
         requires { 0 < length piece.now }
         ensures accepts { Accepts (accepted W.contents self.old)
@@ -131,7 +133,7 @@ impl<W: Write> WriteSink<W> {
         Ok(())
     }
 
-    // Writes a piece, if nothing is gathered.
+    // Writes a piece, if nothing is buffered.
     fn write_past(&mut self, piece: &[u8]) -> io::Result<()>
         requires { unwritten self.old ≡ [] }
         ensures accepts { Accepts (accepted W.contents self.old)
@@ -143,7 +145,7 @@ impl<W: Write> WriteSink<W> {
         answer
     }
 
-    // What a fault leaves unwritten stays gathered.
+    // Bytes that a fault leaves unwritten stay buffered.
     #[inline(never)]
     fn write_gathered(&mut self) -> io::Result<()>
         ensures bytes { Keeps (accepted W.contents self.old) (accepted W.contents self.new) }
@@ -164,8 +166,8 @@ impl<W: Write> WriteSink<W> {
         }
     }
 
-    // Keeps what is gathered after the first `written` bytes. It is a function of its own, so that its list,
-    // of the size of the buffer, is made only after a fault.
+    // Keeps the buffered bytes after the first `written` ones. It is a separate function, so that a list as
+    // large as the buffer is made only after a fault.
     #[inline(never)]
     fn keep_after(&mut self, written: usize)
         requires { written ≤ length (unwritten self.old) }
