@@ -25,6 +25,7 @@ ar=${CC%gcc}ar
 include=(-I"$top/include" -I"$top/examples/c")
 strict=(-Wall -Wextra -Wpedantic -Wconversion -Wshadow -Werror)
 rm -rf "$out/objects" "$out/liblarboardyuzu.a"
+mkdir -p "$out/objects"
 if command -v python3 >/dev/null; then
     python3 "$here/debug_info.py" "$top/include/larboardyuzu.h"
 fi >"$out/objects/debug_info.s"

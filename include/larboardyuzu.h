@@ -26,13 +26,13 @@
  *    open or close handles.
  *  - No call, not even one ending in _reset, is made from a signal handler, or in the forked child of a
  *    process with several threads. An audio thread may make every call that doesn't end in _open or _close:
- *    such a call neither allocates nor blocks. The longest are those that complete an exclusive, in time
- *    proportional to its length, and _reset of up and of state, which write their whole tables.
- *  - An interrupt handler, without an operating system or with one, may make the same calls over handles of
- *    its own, even while it interrupts a call over another handle. It keeps all vector registers (on ARM q0
- *    to q31), which the library uses for copies, and has the stack that docs/c-library.md gives. On x86-64
- *    the handler has a stack of its own (IST), because the library uses the 128 bytes below its stack
- *    pointer, or the archive is built without that (make -C c CODE=no-red-zone).
+ *    such a call neither allocates nor blocks. The longest are those that complete an exclusive, if it is a
+ *    long one, and _reset of up and of state, which write the whole table.
+ *  - An interrupt handler, without an operating system or with one, may make the same calls over handles
+ *    that nobody else uses, even if it interrupts a call over another handle. It keeps all vector registers
+ *    (on ARM q0 to q31), which the library uses for copies, and has the stack that docs/c-library.md gives.
+ *    If the processor is x86-64, the handler has a separate stack (IST), because the library uses the 128
+ *    bytes below the stack pointer, or the archive is built without that (make -C c CODE=no-red-zone).
  *  - The processor is 64-bit x86 with SSE4.2, or 64-bit ARM. Without an operating system its vector
  *    registers are on. On ARM the MMU is on, too, all of this memory is Normal memory, and unaligned
  *    accesses are allowed (SCTLR_ELx.A is 0).
@@ -371,9 +371,9 @@ uint32_t larboardyuzu_endpoint_open(larboardyuzu_endpoint *endpoint, const uint8
 /* Processes one packet from the peer. LARBOARDYUZU_MOST_REPLY_WORDS are enough for any replies; a smaller
  * buffer is refused.
  *
- * No call switches a profile or the protocol from the device's own panel. The device passes its endpoint the
- * message that a peer would send (Set Profile On or Off, Stream Configuration Request), and sends the reply
- * to its peers: examples/c/panel.c. It may do so only in a group without an open exclusive
+ * No call switches a profile or the protocol from the device's own panel. If a player does so, pass the
+ * endpoint the message that a peer would send (Set Profile On or Off, Stream Configuration Request), and send
+ * the reply to the peers: examples/c/panel.c. Wait if the group has an open exclusive
  * (larboardyuzu_endpoint_begun), since the panel's exclusive would cut that one off. */
 uint32_t larboardyuzu_endpoint_packet(larboardyuzu_endpoint *endpoint, const uint32_t *words, size_t count,
                                       uint64_t offset, uint32_t *reply, size_t size,
@@ -428,7 +428,7 @@ enum larboardyuzu_fact_kind {
     LARBOARDYUZU_FACT_ON = 0,         /* a note on, even if the key has since been released: number is the
                                        * note, value its velocity */
     LARBOARDYUZU_FACT_OFF = 1,        /* a note off: number is the note, value its velocity */
-    LARBOARDYUZU_FACT_MODE = 2,       /* a channel mode message: number is 120 to 127, value its value */
+    LARBOARDYUZU_FACT_MODE = 2,       /* a channel mode message: number is 120 to 127, with a value */
     LARBOARDYUZU_FACT_POLY = 3,       /* the pressure of a key: number is the note */
     LARBOARDYUZU_FACT_CONTROL = 4,    /* a controller: number is its index */
     LARBOARDYUZU_FACT_PRESSURE = 5,   /* the pressure of the channel, unless it is 0 */
@@ -465,9 +465,9 @@ typedef struct larboardyuzu_fact {
 /* Opens a state.
  *  - notes: the capacity, per channel, of the list of note on, note off and mode messages; may be 0. The list
  *    is a history in order of arrival: a note off removes nothing, and once the list is full, further
- *    messages are refused until the state is reset. So a state that follows a live stream for ever has
- *    notes 0, and its program goes on after each LARBOARDYUZU_STATE_FULL: the state then keeps controllers,
- *    programs and bends.
+ *    messages are refused until the state is reset. If a state follows a live stream for ever,
+ *    open it with notes 0, and go on when a call returns LARBOARDYUZU_STATE_FULL: the state then keeps
+ *    controllers, programs and bends.
  *  - params: the most parameters of each kind and channel; may be 0.
  *  - flags: LARBOARDYUZU_OF_BYTES if the state takes the bytes of one stream, whose facts are of group 0;
  *    otherwise it takes packets. */
