@@ -1,6 +1,9 @@
 #!/usr/bin/env bash
-# archive.sh here|TARGET FILE: makes the proved archive of crates/larboardyuzu_c anew if its sources or the kit changed; with two words, the
-# archive FILE of the same crate, proved for another TARGET. An archive that is newer than all of them is left as it is, without asking the kit.
+# archive.sh here|TARGET FILE [CODE]: makes the proved archive of crates/larboardyuzu_c anew if its sources or the kit changed; with more words,
+# the archive FILE of the same crate, proved for another TARGET. An archive that is newer than all of them is left as it is, without asking the kit.
+#
+# CODE is strict-align (each access is aligned) or no-red-zone (x86-64: nothing below the stack pointer is used). The kit has no flag for
+# either, so its toolchain is taken with a clang in front that gets one more flag; the kit's files stay as they are.
 #
 # rt lib proves each library below anew that has no stamp, as none has after rt ci in a fresh clone. If none has one, this builds the
 # crate alone over the libraries that are there, with the words with which rt itself would call the compiler. What a build proves is kept in the
@@ -11,6 +14,12 @@ name=larboardyuzu_c
 folder=$(cd "$(dirname "${BASH_SOURCE[0]}")/../crates/$name" && pwd)
 archive=$folder/out/lib$name.a
 target=${2:+$1} file=${2:-$archive}
+case ${3:-} in
+    '') flag= ;;
+    strict-align) flag='-Xclang -target-feature -Xclang +strict-align' ;;
+    no-red-zone) flag='-mllvm -force-attribute=noredzone' ;;
+    *) echo "archive: there is no code $3" >&2; exit 2 ;;
+esac
 cd "$folder"
 
 if ! command -v rt >/dev/null; then
@@ -58,9 +67,19 @@ print(*words, *rtlib.KEPT, sep="\n")
 END
 )
 mkdir -p "$(dirname "$file")"
-if [ -n "$target" ]; then
-    words+=(--target "$target")
-else
-    words+=(--backend llvm)
+[ -z "$target" ] || words+=(--target "$target")
+case ${target:-x86_64} in x86_64*) words+=(--backend llvm) ;; esac
+toolchain=$kit/toolchain
+if [ -n "$flag" ]; then
+    room=$(mktemp -d)
+    trap 'rm -rf "$room"' EXIT
+    toolchain=$room/toolchain
+    mkdir -p "$toolchain/bin"
+    ln -s "$kit/toolchain/lib" "$toolchain/lib"
+    for tool in "$kit"/toolchain/bin/*; do
+        [ "${tool##*/}" = clang ] || ln -s "$tool" "$toolchain/bin/"
+    done
+    printf '#!/bin/sh\nexec "%s/toolchain/bin/clang" "$@" %s\n' "$kit" "$flag" >"$toolchain/bin/clang"
+    chmod +x "$toolchain/bin/clang"
 fi
-"$kit/bin/rattle" build "${words[@]}" --toolchain "$kit/toolchain" -o "$file"
+"$kit/bin/rattle" build "${words[@]}" --toolchain "$toolchain" -o "$file"

@@ -37,6 +37,14 @@ fi
 if has python3; then
     python3 "$top/bindings/compare.py" "$top/include/larboardyuzu.h"
 fi
+if has python3; then
+    CC="$CC" python3 "$here/abi.py" check "$top/include/larboardyuzu.h" "$here/abi-0.3.txt"
+    if has abidw; then
+        abidw "$here/out/liblarboardyuzu.so" --out-file "$out/library.abi"
+        [ "$(grep -c "class-decl name='larboardyuzu_" "$out/library.abi")" = "$(grep -c '^struct ' "$here/abi-0.3.txt")" ] \
+            || { echo "abi: abidw doesn't see each struct"; exit 1; }
+    fi
+fi
 for header in larboardyuzu.h larboardyuzu_heap.h; do
     for language in c11 c99; do
         "$CC" -std=$language "${strict[@]}" -fsyntax-only -x c "$top/include/$header"
@@ -44,16 +52,21 @@ for header in larboardyuzu.h larboardyuzu_heap.h; do
 done
 echo "headers: ok"
 
-# ---- The archive: what it asks for, and what it gives.
-if has nm; then
+# ---- The archive: what it asks for and gives, that it hides each name, and that it has no data that can be written. (.data.rel.ro holds
+# addresses of constants, which a loader writes before the program starts, and nobody afterwards.)
+if has nm && has readelf; then
     asked=$(nm -u "$lib" | awk '$1 == "U" { print $2 }' | sort -u \
-        | grep -vxE 'memcpy|memmove|memset|malloc|realloc|free|rattle_(alloc|realloc|dealloc)|_GLOBAL_OFFSET_TABLE_' || true)
-    given=$(nm -g --defined-only "$lib" | awk 'NF == 3 { print $3 }' | sort -u \
-        | grep -vE '^(larboardyuzu_[a-z0-9_]+|rattle_(alloc|realloc|dealloc))$' || true)
+        | grep -vxE 'memcpy|memmove|memset|malloc|realloc|free|larboardyuzu_heap_(alloc|realloc|dealloc)|_GLOBAL_OFFSET_TABLE_' || true)
+    given=$(nm -g --defined-only "$lib" | awk 'NF == 3 { print $3 }' | sort -u | grep -vE '^larboardyuzu_[a-z0-9_]+$' || true)
     [ -z "$asked$given" ] || { echo "archive: it asks for $asked and gives $given" | tr '\n' ' '; echo; exit 1; }
+    shown=$(readelf -sW "$lib" | awk '($5 == "GLOBAL" || $5 == "WEAK") && $7 != "UND" && $6 != "HIDDEN" { print $8 }')
+    [ -z "$shown" ] || { echo "archive: it doesn't hide $shown" | tr '\n' ' '; echo; exit 1; }
+    written=$(readelf -SW "$lib" | sed 's/^ *\[ *[0-9]*\] *//' \
+        | awk 'NF > 8 && $(NF - 3) ~ /W/ && $1 !~ /^\.data\.rel\.ro/ && $(NF - 5) !~ /^0+$/ { print $1 }')
+    [ -z "$written" ] || { echo "archive: $written can be written" | tr '\n' ' '; echo; exit 1; }
     echo "archive: ok"
 else
-    echo "archive: skipped, there is no nm"
+    echo "archive: skipped, there is no nm or readelf"
 fi
 
 # ---- The examples in C, as C11 and as C++17.
@@ -64,6 +77,8 @@ for name in down block up endpoint; do
 done
 "$CC" -std=c11 "${flags[@]}" "$top/examples/c/fixed_block.c" "$top/examples/c/own_heap.c" "$lib" -o "$out/fixed_block"
 compares fixed_block.c "$expected/fixed_block" "$out/fixed_block"
+"$CC" -std=c11 "${flags[@]}" "$top/examples/c/panel.c" "$lib" -o "$out/panel"
+compares panel.c "$expected/panel" "$out/panel" "$top/examples/endpoint.toml"
 for name in device daemon; do
     "$CC" -std=c11 "${flags[@]}" "$top/examples/c/$name.c" "$lib" -o "$out/$name"
 done
@@ -96,6 +111,8 @@ done
 set_sources memory
 "$CC" -std=c11 "${flags[@]}" "${sources[@]}" "$lib" -Wl,--wrap=malloc,--wrap=realloc,--wrap=free -o "$out/memory"
 "$out/memory"
+"$CC" -std=c11 "${flags[@]}" "$here/tests/own_heap.c" "$top/examples/c/own_heap.c" "$lib" -o "$out/own_heap"
+"$out/own_heap"
 "$CC" -std=c11 "${flags[@]}" -pthread "$here/tests/threads.c" "$lib" -o "$out/threads"
 "$out/threads"
 if has python3; then
@@ -104,10 +121,20 @@ else
     echo "costs: skipped, there is no python3"
 fi
 
-# ---- A program with no C library.
+# ---- A plugin beside another version of the library.
+CC="$CC" "$here/plugin.sh" "$lib" "$out/plugin"
+
+# ---- A program with no C library, and programs without an operating system.
 "$CC" -std=gnu11 -O2 -ffreestanding -fno-builtin -fno-stack-protector -Wall -Wextra -Werror "-I$top/include" "-I$top/examples/c" -static -nostdlib \
-    "$here/tests/bare.c" "$top/examples/c/own_heap.c" "$lib" -o "$out/bare"
+    "$here/tests/bare.c" "$here/tests/no_libc.c" "$top/examples/c/own_heap.c" "$lib" -o "$out/bare"
 "$out/bare"
+if [ "$(uname -m)" != x86_64 ]; then
+    echo "x86-64, without an operating system: skipped, this is another processor"
+elif has qemu-system-x86_64; then
+    CC="$CC" "$here/bare_x86_64.sh" "$lib" "$out/bare-x86-64"
+else
+    echo "x86-64, without an operating system: skipped, there is no qemu-system-x86_64"
+fi
 
 # ---- The same under sanitizers and valgrind.
 if echo 'int main(void){return 0;}' | "$CC" -fsanitize=address,undefined -x c - -o "$out/sanitized" 2>/dev/null; then

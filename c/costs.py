@@ -12,6 +12,7 @@ HERE = os.path.dirname(os.path.abspath(__file__))
 TOP = os.path.dirname(HERE)
 PAGE = f"{TOP}/docs/c-library.md"
 ROOMS = [6, 1024]
+COLUMNS = 9
 # The rows of the table, by the names of tests/costs.c, with an open call and one more call for the size of the code.
 ROWS = {
     "down": ("down", "down", "larboardyuzu_down_open(&it, 64, 3)", "larboardyuzu_down_packet(&it, words, 2, 0, bytes, 64, (larboardyuzu_piece *)out)"),
@@ -23,15 +24,15 @@ ROWS = {
                  "larboardyuzu_endpoint_packet(&it, words, 2, 0, words, 64, (larboardyuzu_replies *)out)"),
     "sysex8-1": ("sysex8, one stream", "sysex8", "larboardyuzu_sysex8_open(&it, 1, 64)",
                  "larboardyuzu_sysex8_packet(&it, words, 4, 0, bytes, 64, (larboardyuzu_part *)out)"),
-    "state-0-0": ("state without lists", "state", "larboardyuzu_state_open(&it, 64, 0, 0, 0)", "larboardyuzu_state_packet(&it, words, 2)"),
-    "state-of-bytes": ("the same, `OF_BYTES`", "state", "larboardyuzu_state_open(&it, 64, 0, 0, 4)", "larboardyuzu_state_byte(&it, bytes[0])"),
+    "state-0-0": ("state for packets, `notes` and `params` 0", "state", "larboardyuzu_state_open(&it, 64, 0, 0, 0)", "larboardyuzu_state_packet(&it, words, 2)"),
+    "state-of-bytes": ("state for bytes (`OF_BYTES`), `notes` and `params` 0", "state", "larboardyuzu_state_open(&it, 64, 0, 0, 4)", "larboardyuzu_state_byte(&it, bytes[0])"),
 }
 # A program of one kind, without a C library.
 PROGRAM = """#include "larboardyuzu.h"
 #include "larboardyuzu_heap.h"
-larboardyuzu_given rattle_alloc(size_t size, size_t align) {{ larboardyuzu_given it = {{ false, (void *)(size + align) }}; return it; }}
-larboardyuzu_given rattle_realloc(void *at, size_t old, size_t size, size_t align) {{ larboardyuzu_given it = {{ false, (char *)at + old + size + align }}; return it; }}
-void rattle_dealloc(void *at) {{ (void)at; }}
+larboardyuzu_given larboardyuzu_heap_alloc(size_t size, size_t align) {{ larboardyuzu_given it = {{ false, (void *)(size + align) }}; return it; }}
+larboardyuzu_given larboardyuzu_heap_realloc(void *at, size_t old, size_t size, size_t align) {{ larboardyuzu_given it = {{ false, (char *)at + old + size + align }}; return it; }}
+void larboardyuzu_heap_dealloc(void *at) {{ (void)at; }}
 void *memcpy(void *to, const void *from, size_t size) {{ return size ? to : (void *)from; }}
 void *memmove(void *to, const void *from, size_t size) {{ return size ? to : (void *)from; }}
 void *memset(void *to, int byte, size_t size) {{ return byte + (char *)to + size; }}
@@ -71,9 +72,9 @@ def code_of(row, library, room):
     return sizes[0] - sizes[1]
 
 
-def measured(library, room, runner, stacks=()):
+def measured(library, room, runner, stacks=(), own_heap=()):
     """What tests/costs.c prints, by row and room: kept, peak, requests, stack of open and of use."""
-    build(f"{room}/costs", [f"{HERE}/tests/costs.c", f"{HERE}/tests/subjects.c", library])
+    build(f"{room}/costs", [f"{HERE}/tests/costs.c", f"{HERE}/tests/subjects.c", *own_heap, library])
     words = [*runner, f"{room}/costs"]
     if stacks:
         with open(f"{room}/stacks", "w", encoding="utf-8") as it:
@@ -89,16 +90,22 @@ def measured(library, room, runner, stacks=()):
     return found
 
 
+def blocks(library, room, runner):
+    """The sizes that the block of examples/c/own_heap.c must have, by row and room."""
+    words = ["-DOWN_HEAP", "-DHEAP_SIZE=4194304", f"-I{TOP}/examples/c", f"{TOP}/examples/c/own_heap.c"]
+    return {name: {at: it[1] for at, it in found.items()} for name, found in measured(library, room, runner, (), words).items()}
+
+
 def in_kilobytes(size):
     """Tenths of 1,024 bytes, rounded up."""
     return f"{-(-size * 10 // 1024) / 10:.1f}"
 
 
-def row_of(name, found, code):
+def row_of(name, found, block, code):
     least = found[ROOMS[0]]
     stack = [max(found[it][at] for it in ROOMS) * 11 // 10 for at in (3, 4)]  # (a tenth more: the other processor's)
-    kept = [f"{found[it][0]:,}" + (f" ({found[it][1]:,})" if found[it][1] > found[it][0] else "") for it in ROOMS]
-    return [ROWS[name][0], *kept, f"{least[2]:,}", *map(in_kilobytes, stack), code]
+    kept = [f"{found[it][0]:,}" + (f" ({found[it][1]:,} during `open`)" if found[it][1] > found[it][0] else "") for it in ROOMS]
+    return [ROWS[name][0], *kept, *(f"{block[it]:,}" for it in ROOMS), f"{least[2]:,}", *map(in_kilobytes, stack), code]
 
 
 def read_page():
@@ -106,7 +113,7 @@ def read_page():
     with open(PAGE, encoding="utf-8") as it:
         lines = [[cell.strip() for cell in line.strip("|\n").split("|")] for line in it if line.startswith("| ")]
     named = {title: name for name, (title, *_) in ROWS.items()}
-    return {named[it[0]]: it for it in lines if it[0] in named and len(it) == 7}
+    return {named[it[0]]: it for it in lines if it[0] in named and len(it) == COLUMNS}
 
 
 def bytes_of(kilobytes):
@@ -118,21 +125,24 @@ def check(library, room, runner):
     told = [f"{it}: not in the table of {PAGE}" for it in ROWS if it not in page]
     if told:
         return told
-    found = measured(library, room, runner, {name: tuple(map(bytes_of, it[4:6])) for name, it in page.items()})
+    found = measured(library, room, runner, {name: tuple(map(bytes_of, it[6:8])) for name, it in page.items()})
+    block = blocks(library, room, runner)
     for name, cells in page.items():
-        wanted = row_of(name, found[name], cells[6])
-        told += [f"{name}: the page has {cells[1:4]}, measured is {wanted[1:4]}"] if cells[1:4] != wanted[1:4] else []
+        wanted = row_of(name, found[name], block[name], cells[8])
+        told += [f"{name}: the page has {cells[1:6]}, measured is {wanted[1:6]}"] if cells[1:6] != wanted[1:6] else []
         if not runner:
-            told += [f"{name}: the page gives a stack of {has}, enough is {needs}" for has, needs in zip(cells[4:6], wanted[4:6])
+            told += [f"{name}: the page gives a stack of {has}, enough is {needs}" for has, needs in zip(cells[6:8], wanted[6:8])
                      if float(has) > 1.5 * float(needs) + 1]
     return told
 
 
 def print_table(library, room):
-    print("| A handle | Bytes at room 6 | at 1,024 | Requests | KB of stack of open | of its calls | KB of code |")
-    print("|---|---|---|---|---|---|---|")
+    print("| A handle | Bytes at room 6 | at 1,024 | Block of `own_heap.c` at room 6 | at 1,024 | Allocations | KB of stack for open |"
+          " KB of stack for its calls | KB of code |")
+    print("|---" * COLUMNS + "|")
+    block = blocks(library, room, [])
     for name, found in measured(library, room, []).items():
-        print(f"| {' | '.join(row_of(name, found, in_kilobytes(code_of(name, library, room))))} |")
+        print(f"| {' | '.join(row_of(name, found, block[name], in_kilobytes(code_of(name, library, room))))} |")
 
 
 def main(action, library, room, runner):

@@ -3,30 +3,32 @@
 
 #include <stdlib.h>
 
-static char nothing;
+/* The library reads and writes nothing there. It is constant, so that the library has no data that can be
+ * written. */
+static const char nothing;
 
 static larboardyuzu_given given(void *at)
 {
     larboardyuzu_given it;
     it.is_given = at != NULL;
-    it.at = at != NULL ? at : &nothing;
+    it.at = at != NULL ? at : (void *)&nothing;
     return it;
 }
 
-larboardyuzu_given rattle_alloc(size_t size, size_t align)
+larboardyuzu_given larboardyuzu_heap_alloc(size_t size, size_t align)
 {
     (void)align;
     return given(malloc(size != 0 ? size : 1));
 }
 
-larboardyuzu_given rattle_realloc(void *at, size_t kept, size_t size, size_t align)
+larboardyuzu_given larboardyuzu_heap_realloc(void *at, size_t kept, size_t size, size_t align)
 {
     (void)kept;
     (void)align;
     return given(realloc(at, size != 0 ? size : 1));
 }
 
-void rattle_dealloc(void *at)
+void larboardyuzu_heap_dealloc(void *at)
 {
     free(at);
 }

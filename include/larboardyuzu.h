@@ -24,7 +24,15 @@
  *    Outputs may be uninitialized.
  *  - If a program defines the functions of larboardyuzu_heap.h itself, they must be safe for all threads that
  *    open or close handles.
- *  - No call is made from a signal handler, or in the forked child of a process with several threads.
+ *  - No call, not even one ending in _reset, is made from a signal handler, or in the forked child of a
+ *    process with several threads. An audio thread may make every call that doesn't end in _open or _close:
+ *    such a call neither allocates nor blocks. The longest are those that complete an exclusive, if it is a
+ *    long one, and _reset of up and of state, which write the whole table.
+ *  - An interrupt handler, without an operating system or with one, may make the same calls over handles
+ *    that nobody else uses, even if it interrupts a call over another handle. It keeps all vector registers
+ *    (on ARM q0 to q31), which the library uses for copies, and has the stack that docs/c-library.md gives.
+ *    If the processor is x86-64, the handler has a separate stack (IST), because the library uses the 128
+ *    bytes below the stack pointer, or the archive is built without that (make -C c CODE=no-red-zone).
  *  - The processor is 64-bit x86 with SSE4.2, or 64-bit ARM. Without an operating system its vector
  *    registers are on. On ARM the MMU is on, too, all of this memory is Normal memory, and unaligned
  *    accesses are allowed (SCTLR_ELx.A is 0).
@@ -56,6 +64,10 @@
 #include <stddef.h>
 #include <stdint.h>
 
+#if UINTPTR_MAX != UINT64_MAX
+#error "larboardyuzu needs a 64-bit processor: its archives and structs are for 64-bit x86 and 64-bit ARM"
+#endif
+
 #ifdef __cplusplus
 extern "C" {
 #endif
@@ -67,6 +79,10 @@ extern "C" {
 
 /* Returns the version of the library that is linked. */
 uint32_t larboardyuzu_version(void);
+
+/* Whether the linked library has the binary interface of this header. A program or plugin that may meet
+ * another version of the shared library calls it once, before any other call. */
+#define LARBOARDYUZU_IS_COMPATIBLE() (larboardyuzu_version() >> 8 == LARBOARDYUZU_VERSION >> 8)
 
 enum larboardyuzu_status {
     LARBOARDYUZU_DONE = 0,
@@ -189,8 +205,10 @@ typedef struct larboardyuzu_down {
 
 /* The result of one packet. */
 typedef struct larboardyuzu_piece {
-    size_t written;  /* number of MIDI 1.0 bytes; 0 if the packet has no translation, or if its exclusive
-                      * isn't complete yet */
+    size_t written;  /* number of MIDI 1.0 bytes, of up to four messages (a parameter; a bank and a program
+                      * are three). Without LARBOARDYUZU_COMPACT each begins with its status byte, so a host
+                      * whose events hold one message cuts the bytes there. 0 if the packet has no
+                      * translation, or if its exclusive isn't complete yet */
     size_t need;     /* with LARBOARDYUZU_SMALL_BUFFER, a sufficient size; otherwise 0 */
     uint64_t offset; /* the offset of the line: of this packet or, for a cut exclusive, of the exclusive's
                       * first packet; 0 if there is no line */
@@ -351,7 +369,12 @@ uint32_t larboardyuzu_endpoint_open(larboardyuzu_endpoint *endpoint, const uint8
                                     uint32_t room, uint8_t *rule);
 
 /* Processes one packet from the peer. LARBOARDYUZU_MOST_REPLY_WORDS are enough for any replies; a smaller
- * buffer is refused. */
+ * buffer is refused.
+ *
+ * No call switches a profile or the protocol from the device's own panel. If a player does so, pass the
+ * endpoint the message that a peer would send (Set Profile On or Off, Stream Configuration Request), and send
+ * the reply to the peers: examples/c/panel.c. Wait if the group has an open exclusive
+ * (larboardyuzu_endpoint_begun), since the panel's exclusive would cut that one off. */
 uint32_t larboardyuzu_endpoint_packet(larboardyuzu_endpoint *endpoint, const uint32_t *words, size_t count,
                                       uint64_t offset, uint32_t *reply, size_t size,
                                       larboardyuzu_replies *replies);
@@ -405,7 +428,7 @@ enum larboardyuzu_fact_kind {
     LARBOARDYUZU_FACT_ON = 0,         /* a note on, even if the key has since been released: number is the
                                        * note, value its velocity */
     LARBOARDYUZU_FACT_OFF = 1,        /* a note off: number is the note, value its velocity */
-    LARBOARDYUZU_FACT_MODE = 2,       /* a channel mode message: number is 120 to 127 */
+    LARBOARDYUZU_FACT_MODE = 2,       /* a channel mode message: number is 120 to 127, with a value */
     LARBOARDYUZU_FACT_POLY = 3,       /* the pressure of a key: number is the note */
     LARBOARDYUZU_FACT_CONTROL = 4,    /* a controller: number is its index */
     LARBOARDYUZU_FACT_PRESSURE = 5,   /* the pressure of the channel, unless it is 0 */
@@ -442,7 +465,9 @@ typedef struct larboardyuzu_fact {
 /* Opens a state.
  *  - notes: the capacity, per channel, of the list of note on, note off and mode messages; may be 0. The list
  *    is a history in order of arrival: a note off removes nothing, and once the list is full, further
- *    messages are refused until the state is reset.
+ *    messages are refused until the state is reset. If a state follows a live stream for ever,
+ *    open it with notes 0, and go on when a call returns LARBOARDYUZU_STATE_FULL: the state then keeps
+ *    controllers, programs and bends.
  *  - params: the most parameters of each kind and channel; may be 0.
  *  - flags: LARBOARDYUZU_OF_BYTES if the state takes the bytes of one stream, whose facts are of group 0;
  *    otherwise it takes packets. */
@@ -589,7 +614,7 @@ uint32_t larboardyuzu_usb_carried(const uint8_t *event, size_t size, larboardyuz
 /* Writes the name that this header gives a number, without its prefix and without a terminating zero, such as
  * SMALL_BUFFER, NOTE_ATTRIBUTE or NOT_CI. In the program's listing it is in lower case with hyphens:
  * note-attribute. length: its bytes, 0 unless it was written. LARBOARDYUZU_NOTHING: no such number.
- * LARBOARDYUZU_SMALL_BUFFER: it doesn't fit. */
+ * LARBOARDYUZU_SMALL_BUFFER: it doesn't fit; LARBOARDYUZU_MOST_NAME bytes are enough for any name. */
 uint32_t larboardyuzu_status_name(uint32_t status, uint8_t *text, size_t size, size_t *length);
 uint32_t larboardyuzu_kind_name(uint32_t kind, uint8_t *text, size_t size, size_t *length);
 uint32_t larboardyuzu_heard_name(uint32_t heard, uint8_t *text, size_t size, size_t *length);
@@ -601,14 +626,15 @@ uint32_t larboardyuzu_words_in_packet(uint32_t first);
  * word come highest first. block: bytes taken, and words written.
  *  - LARBOARDYUZU_SMALL_BUFFER, before a packet for which the rest of `words` is too small: need is how many
  *    words the packet has.
- *  - LARBOARDYUZU_BAD_SIZE, before a last packet whose bytes aren't all there, and always before fewer than
- *    four bytes: pass these bytes again with those that follow. */
+ *  - LARBOARDYUZU_BAD_SIZE, before a last packet whose bytes aren't all there, and always before one to three
+ *    bytes: pass these bytes again with those that follow. (No bytes are LARBOARDYUZU_DONE.) */
 uint32_t larboardyuzu_packets_in(const uint8_t *bytes, size_t count, uint32_t flags, uint32_t *words,
                                  size_t size, larboardyuzu_block *block);
 
 /* Writes a packet, counted from 0, of an exclusive with these bytes between F0 and F7: two words.
  * LARBOARDYUZU_SMALL_BUFFER: size is under 2. LARBOARDYUZU_NOTHING: there is no packet of this index.
- * LARBOARDYUZU_HIGH_BIT: a byte of this packet is over 127 (index 0 checks the whole payload). */
+ * LARBOARDYUZU_HIGH_BIT: a byte of this packet is over 127 (index 0 checks the whole payload). After a
+ * refusal the words are unchanged. */
 uint32_t larboardyuzu_exclusive_packet(uint8_t group, const uint8_t *payload, size_t payload_size,
                                        size_t index, uint32_t *words, size_t size);
 

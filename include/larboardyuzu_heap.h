@@ -17,6 +17,13 @@
 extern "C" {
 #endif
 
+/* Hides the three names in a shared library that is linked with the archive, whoever defines them. */
+#if defined(__GNUC__)
+#define LARBOARDYUZU_HEAP __attribute__((visibility("hidden")))
+#else
+#define LARBOARDYUZU_HEAP
+#endif
+
 /* The result of an allocation. `at` is never null, even if the allocation failed. */
 typedef struct larboardyuzu_given {
     bool is_given;
@@ -24,14 +31,15 @@ typedef struct larboardyuzu_given {
 } larboardyuzu_given;
 
 /* Gives `size` bytes at an address that `align`, a power of two up to 16, divides. */
-larboardyuzu_given rattle_alloc(size_t size, size_t align);
+LARBOARDYUZU_HEAP larboardyuzu_given larboardyuzu_heap_alloc(size_t size, size_t align);
 
 /* Replaces a block of `kept` bytes by one of `size` bytes, and copies as many of the old bytes as fit. On
  * failure the old block is left unchanged. */
-larboardyuzu_given rattle_realloc(void *at, size_t kept, size_t size, size_t align);
+LARBOARDYUZU_HEAP larboardyuzu_given larboardyuzu_heap_realloc(void *at, size_t kept, size_t size,
+                                                              size_t align);
 
-/* Frees a block returned by rattle_alloc or rattle_realloc. */
-void rattle_dealloc(void *at);
+/* Frees a block returned by larboardyuzu_heap_alloc or larboardyuzu_heap_realloc. */
+LARBOARDYUZU_HEAP void larboardyuzu_heap_dealloc(void *at);
 
 #ifdef __cplusplus
 }

@@ -23,7 +23,8 @@ PARTS = ("src", "specs", "proofs")
 PROGRAM = os.environ.get("PROGRAM", "crates/midi_tool/out/midi_tool")
 LIBRARY = os.environ.get("LIBRARY", "c/out")
 ARM64_COMPILER = os.environ.get("CC_ARM64", "aarch64-linux-gnu-gcc")
-HEAP = ["c/heap.c", "include/larboardyuzu_heap.h"]
+# What is linked with the proved archive.
+HEAP = ["c/heap.c", "c/one_object.sh", "c/debug_info.py", "c/interface.py", "include/larboardyuzu.h", "include/larboardyuzu_heap.h"]
 
 
 def read(path):

@@ -1,7 +1,7 @@
-/* A program without a C library, as firmware is: it has memcpy, memmove and memset, the heap of the example
- * over a fixed block, and nothing else. A note goes down and up again. It says so by a call of Linux; with
- * NO_SYSTEM by the functions of start_arm64.c, which runs it without an operating system. It is linked with
- * -nostdlib. */
+/* A program without a C library, as firmware is: it has memcpy, memmove and memset (no_libc.c), the heap of
+ * the example over a fixed block, and nothing else. A note goes down and up again. It says so by a call of
+ * Linux; with NO_SYSTEM by the functions of start_arm64.c or start_x86_64.c, which run it without an
+ * operating system. It is linked with -nostdlib. */
 #include "larboardyuzu.h"
 #include "own_heap.h"
 
@@ -9,36 +9,7 @@ enum {
     ROOM = 64
 };
 
-void *memcpy(void *restrict to, const void *restrict from, size_t size);
-void *memmove(void *to, const void *from, size_t size);
-void *memset(void *to, int byte, size_t size);
 void bare_main(void);
-
-void *memcpy(void *restrict to, const void *restrict from, size_t size)
-{
-    for (size_t i = 0; i < size; i++)
-        ((unsigned char *)to)[i] = ((const unsigned char *)from)[i];
-    return to;
-}
-
-void *memmove(void *to, const void *from, size_t size)
-{
-    unsigned char *target = to;
-    const unsigned char *source = from;
-
-    if (target < source)
-        return memcpy(to, from, size);
-    while (size-- > 0)
-        target[size] = source[size];
-    return to;
-}
-
-void *memset(void *to, int byte, size_t size)
-{
-    for (size_t i = 0; i < size; i++)
-        ((unsigned char *)to)[i] = (unsigned char)byte;
-    return to;
-}
 
 #if defined(NO_SYSTEM)
 void put_text(const char *text, size_t size);

@@ -9,7 +9,7 @@ PHDRS
 SECTIONS
 {
     .text : { KEEP(*(.text.start)) *(.text .text.*) *(.rodata .rodata.*) } > ram :code
-    .data : { *(.data .data.*) } > ram :data
+    .data : { *(.data .data.* .tables) } > ram :data
     .bss : { *(.bss .bss.* COMMON) . = ALIGN(16); . += 64K; stack_top = .; } > ram :data
     /DISCARD/ : { *(.comment) *(.eh_frame*) *(.note*) }
 }

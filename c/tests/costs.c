@@ -1,7 +1,8 @@
 /* costs [STACKS]: what handles cost. Prints a line for each kind of handle and each room: the bytes that it
  * keeps, the most that its open call had at once, its requests for memory, and how deep the stack is in its
  * open call and in all its other calls. STACKS is a file with lines "KIND OPEN USE" of bytes: then the
- * calls also run on stacks that are only so large, each with a page below it that can't be touched. */
+ * calls also run on stacks that are only so large, each with a page below it that can't be touched. Built
+ * with OWN_HEAP, it uses own_heap.c, and the second number is the size that its block must have. */
 #define _GNU_SOURCE
 #include "check.h"
 #include "larboardyuzu_heap.h"
@@ -21,6 +22,26 @@ enum {
     OWN = 512 /* what this test's own frames take */
 };
 
+#if defined(OWN_HEAP)
+/* ---- Memory: the block of own_heap.c. */
+
+#include "own_heap.h"
+
+static size_t kept_now(void)
+{
+    return own_heap_used();
+}
+
+static size_t most_so_far(void)
+{
+    return own_heap_most();
+}
+
+static long requests_so_far(void)
+{
+    return (long)own_heap_requests();
+}
+#else
 /* ---- Memory: a block, from the front, which counts. */
 
 static _Alignas(16) unsigned char memory[64 << 20];
@@ -47,13 +68,13 @@ static size_t size_of(const void *at)
     return size;
 }
 
-larboardyuzu_given rattle_alloc(size_t size, size_t align)
+larboardyuzu_given larboardyuzu_heap_alloc(size_t size, size_t align)
 {
     (void)align;
     return give(size);
 }
 
-larboardyuzu_given rattle_realloc(void *at, size_t old, size_t size, size_t align)
+larboardyuzu_given larboardyuzu_heap_realloc(void *at, size_t old, size_t size, size_t align)
 {
     larboardyuzu_given it = give(size);
     (void)align;
@@ -62,10 +83,30 @@ larboardyuzu_given rattle_realloc(void *at, size_t old, size_t size, size_t alig
     return it;
 }
 
-void rattle_dealloc(void *at)
+void larboardyuzu_heap_dealloc(void *at)
 {
     kept -= size_of(at);
 }
+
+static size_t kept_now(void)
+{
+    return kept;
+}
+
+/* The most bytes since the last row began, which begins with nothing in use. */
+static size_t most_so_far(void)
+{
+    size_t found = peak;
+
+    used = peak = 0;
+    return found;
+}
+
+static long requests_so_far(void)
+{
+    return requests;
+}
+#endif
 
 /* ---- The rows of the table. */
 
@@ -195,18 +236,20 @@ static void run_use(void)
 
 static void run_row(size_t open_stack, size_t use_stack)
 {
-    size_t own = depth_of(nothing, DEEP), open_depth, use_depth;
+    size_t own = depth_of(nothing, DEEP), open_depth, use_depth, kept_after, most;
+    long requests_before = requests_so_far(), requests_after;
 
-    used = kept = peak = 0;
-    requests = 0;
     open_depth = depth_of(run_open, open_stack + OWN) - own;
-    printf("%s %lu %lu %lu %ld %lu", current->name, (unsigned long)room, (unsigned long)kept,
-           (unsigned long)peak, requests, (unsigned long)open_depth);
+    kept_after = kept_now();
+    requests_after = requests_so_far();
     random_words(words, WORDS);
     random_bytes(bytes, BYTES);
     use_depth = depth_of(run_use, use_stack + OWN) - own;
-    printf(" %lu\n", (unsigned long)use_depth);
-    CHECK(kept == 0);
+    most = most_so_far();
+    CHECK(kept_now() == 0);
+    printf("%s %lu %lu %lu %ld %lu %lu\n", current->name, (unsigned long)room, (unsigned long)kept_after,
+           (unsigned long)most, requests_after - requests_before, (unsigned long)open_depth,
+           (unsigned long)use_depth);
 }
 
 /* The stacks of a kind, by the file. */

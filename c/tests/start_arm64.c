@@ -1,6 +1,6 @@
 /* Starts bare.c on a 64-bit ARM without an operating system: the board `virt` of qemu-system-aarch64. It
  * does what the library needs: the vector registers on, the MMU on with Normal memory, unaligned accesses
- * allowed. */
+ * allowed, unless CHECKS_ALIGNMENT is set. */
 #include <stddef.h>
 #include <stdint.h>
 
@@ -14,7 +14,7 @@ void power_off(void);
 static volatile uint32_t *const port = (volatile uint32_t *)0x09000000;
 
 /* A table of the first level, of gigabytes that are mapped to themselves. */
-static _Alignas(4096) uint64_t table[512];
+static _Alignas(4096) __attribute__((section(".tables"))) uint64_t table[512];
 
 enum {
     BLOCK = 1,
@@ -58,8 +58,10 @@ void start(void)
                      : "r"((uint64_t)0xFF00), "r"(control), "r"(table)
                      : "memory");
     __asm__ volatile("mrs %0, sctlr_el1" : "=r"(system));
-    system =
-        (system | 1 | 1 << 2 | 1 << 12) & ~(uint64_t)2; /* MMU and caches on; alignment isn't checked */
+    system = (system | 1 | 1 << 2 | 1 << 12) & ~(uint64_t)2; /* MMU and caches on */
+#if defined(CHECKS_ALIGNMENT)
+    system |= 2;
+#endif
     __asm__ volatile("msr sctlr_el1, %0\n isb" : : "r"(system) : "memory");
     bare_main();
 }

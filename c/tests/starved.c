@@ -30,7 +30,7 @@ static larboardyuzu_given given(void *at)
     return it;
 }
 
-larboardyuzu_given rattle_alloc(size_t size, size_t align)
+larboardyuzu_given larboardyuzu_heap_alloc(size_t size, size_t align)
 {
     (void)align;
     if (!is_granted(size))
@@ -39,14 +39,14 @@ larboardyuzu_given rattle_alloc(size_t size, size_t align)
     return given(malloc(size != 0 ? size : 1));
 }
 
-larboardyuzu_given rattle_realloc(void *at, size_t kept, size_t size, size_t align)
+larboardyuzu_given larboardyuzu_heap_realloc(void *at, size_t kept, size_t size, size_t align)
 {
     (void)kept;
     (void)align;
     return given(is_granted(size) ? realloc(at, size != 0 ? size : 1) : NULL);
 }
 
-void rattle_dealloc(void *at)
+void larboardyuzu_heap_dealloc(void *at)
 {
     blocks--;
     free(at);

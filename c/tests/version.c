@@ -6,7 +6,7 @@ int main(void)
 {
     uint32_t version = larboardyuzu_version();
 
-    CHECK(version == LARBOARDYUZU_VERSION);
+    CHECK(version == LARBOARDYUZU_VERSION && LARBOARDYUZU_IS_COMPATIBLE());
     printf("%u.%u.%u\n", (unsigned)(version >> 16), (unsigned)(version >> 8 & 255), (unsigned)(version & 255));
     return 0;
 }
