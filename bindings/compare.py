@@ -87,13 +87,17 @@ def compare_rust(header):
     }
     wanted = {capital(name): [(it, in_rust(kind)) for it, kind in fields] for name, fields in header.structs.items()}
     wanted["Handle"] = [("memory", "*mut c_void"), ("is_open", "usize")]
-    wanted["Given"] = [("is_given", "bool"), ("at", "*mut c_void")]  # of larboardyuzu_heap.h
+    heap = Header(re.sub(r"\bLARBOARDYUZU_HEAP\s+", "", read(f"{HERE}/../include/larboardyuzu_heap.h")))
+    wanted |= {capital(name): [(it, in_rust(kind)) for it, kind in fields] for name, fields in heap.structs.items()}
     yield from differences("sys.rs", structs, wanted)
     calls = {
         name: (result or "void", pairs_of_rust(arguments))
         for name, arguments, result in re.findall(r"pub fn larboardyuzu_(\w+)\(([^)]*)\)(?: -> (\w+))?;", text)
     }
-    wanted = {name: (RUST.get(result, result), [(it, in_rust(kind)) for it, kind in arguments]) for name, (result, arguments) in header.calls.items()}
+    wanted = {
+        name: (result if result == "void" else in_rust(result), [(it, in_rust(kind)) for it, kind in arguments])
+        for name, (result, arguments) in {**header.calls, **heap.calls}.items()
+    }
     yield from differences("sys.rs", calls, wanted)
 
 

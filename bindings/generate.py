@@ -93,7 +93,7 @@ class Header:
     @staticmethod
     def calls_of(text):
         section = ""
-        pattern = r"(?ms)^/\* ---- (.*?) ---- \*/|^((?:larboardyuzu_)?\w+) (larboardyuzu_\w+|rattle_\w+)\(([^)]*)\);"
+        pattern = r"(?ms)^/\* ---- (.*?) ---- \*/|^(?:LARBOARDYUZU_HEAP )?((?:larboardyuzu_)?\w+) (larboardyuzu_\w+)\(([^)]*)\);"
         for title, result, name, arguments in re.findall(pattern, text):
             section = title or section
             if name:
@@ -199,7 +199,7 @@ def rust_struct(struct, docs):
 def rust_call(call):
     arguments = [f"{it.name}: {rust_type(it.what)}" for it in call.arguments]
     result = "" if call.result == "void" else f" -> {rust_type(call.result)}"
-    name = call.name if call.name.startswith("rattle_") else PREFIX + call.name
+    name = PREFIX + call.name
     line = f"    pub fn {name}({', '.join(arguments)}){result};"
     if len(line) <= 120:
         return [line]

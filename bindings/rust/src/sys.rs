@@ -525,7 +525,7 @@ pub struct Given {
 }
 
 extern "C" {
-    pub fn rattle_alloc(size: usize, align: usize) -> Given;
-    pub fn rattle_realloc(at: *mut c_void, kept: usize, size: usize, align: usize) -> Given;
-    pub fn rattle_dealloc(at: *mut c_void);
+    pub fn larboardyuzu_heap_alloc(size: usize, align: usize) -> Given;
+    pub fn larboardyuzu_heap_realloc(at: *mut c_void, kept: usize, size: usize, align: usize) -> Given;
+    pub fn larboardyuzu_heap_dealloc(at: *mut c_void);
 }

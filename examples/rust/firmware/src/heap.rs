@@ -76,12 +76,12 @@ fn given(at: *mut u8) -> Given {
 }
 
 #[no_mangle]
-extern "C" fn rattle_alloc(size: usize, align: usize) -> Given {
+extern "C" fn larboardyuzu_heap_alloc(size: usize, align: usize) -> Given {
     given(HEAP.allocate(size, align))
 }
 
 #[no_mangle]
-unsafe extern "C" fn rattle_realloc(
+unsafe extern "C" fn larboardyuzu_heap_realloc(
     at: *mut c_void,
     kept: usize,
     size: usize,
@@ -97,6 +97,6 @@ unsafe extern "C" fn rattle_realloc(
 }
 
 #[no_mangle]
-extern "C" fn rattle_dealloc(_at: *mut c_void) {
+extern "C" fn larboardyuzu_heap_dealloc(_at: *mut c_void) {
     HEAP.free();
 }
