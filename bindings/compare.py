@@ -11,7 +11,7 @@ import sys
 sys.dont_write_bytecode = True
 HERE = os.path.dirname(os.path.abspath(__file__))
 # The types of C, and how Rust and ctypes spell them.
-RUST = {"uint8_t": "u8", "uint32_t": "u32", "uint64_t": "u64", "size_t": "usize", "bool": "bool", "uint8_t[3]": "[u8; 3]", "uint8_t[5]": "[u8; 5]"}
+RUST = {"void": "c_void", "uint8_t": "u8", "uint32_t": "u32", "uint64_t": "u64", "size_t": "usize", "bool": "bool", "uint8_t[3]": "[u8; 3]", "uint8_t[5]": "[u8; 5]"}
 PYTHON = {
     "uint8_t": ctypes.c_uint8,
     "uint32_t": ctypes.c_uint32,
