@@ -106,7 +106,7 @@ fn reads_fail_in_turn(
     steps: &[Step<'_>],
 ) -> Result<(), Fail> {
     let length = input_length(alloc, given)?;
-    for n in 0..length + 1 {
+    for n in 0..length.saturating_add(1) {
         let said = said_of(alloc, made_within(steps, n), "")?;
         let row = format!(in alloc;
             "# read {n} fails: {given}\ncuts-of-one {length}\nread-fails {n}\nleaves ReadFault{said}\nnote read failed"
@@ -185,7 +185,7 @@ fn all_puts_fail_in_turn(
 fn fronts_hold(rt: &impl Abort, alloc: Global, given: &str, steps: &str) -> Result<(), Fail> {
     let steps = steps_of(alloc, steps)?;
     let length = input_length(alloc, given)?;
-    for n in 0..length + 1 {
+    for n in 0..length.saturating_add(1) {
         let made = made_within(&steps, n);
         let said = said_of(alloc, made, "")?;
         let at = made.last().map_or(0, |step| step.after);
