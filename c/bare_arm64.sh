@@ -21,6 +21,7 @@ runs() {
         shift
     done
     shift
+    # shellcheck disable=SC2086
     "${CC_ARM64:-aarch64-linux-gnu-gcc}" -std=gnu11 -O2 -ffreestanding -fno-builtin -fno-stack-protector -fno-pie -no-pie -mstrict-align \
         -Wall -Wextra -Werror -DNO_SYSTEM -DHEAP_SIZE=2097152 $flags -I"$top/include" -I"$top/examples/c" -static -nostdlib -Wl,-T,"$here/tests/bare_arm64.ld" \
         -Wl,--build-id=none "$here/tests/start_arm64.c" "$here/tests/no_libc.c" "$top/examples/c/own_heap.c" "$@" "$lib" -o "$room/$name.elf"

@@ -19,6 +19,7 @@ runs() {
         shift
     done
     shift
+    # shellcheck disable=SC2086
     "${CC:-cc}" -std=gnu11 -O2 -ffreestanding -fno-builtin -fno-stack-protector -fno-pie -no-pie -mno-red-zone -fcf-protection=none \
         -Wall -Wextra -Werror -DNO_SYSTEM -DHEAP_SIZE=2097152 $flags -I"$top/include" -I"$top/examples/c" -static -nostdlib -Wl,-T,"$here/tests/bare_x86_64.ld" \
         -Wl,--build-id=none "$here/tests/start_x86_64.c" "$here/tests/no_libc.c" "$top/examples/c/own_heap.c" "$@" "$lib" -o "$room/$name.elf"

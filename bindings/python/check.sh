@@ -62,4 +62,6 @@ else
 fi
 compares translations </dev/null
 # a recording, a data increment, and half a packet
-{ cat "$examples/mixed.ump"; printf '\040\260\140\001\100\220'; } | compares blocks
+for name in blocks recording; do
+    { cat "$examples/mixed.ump"; printf '\040\260\140\001\100\220'; } | compares $name
+done
