@@ -11,7 +11,8 @@ import sys
 TOP = os.path.dirname(os.path.dirname(os.path.abspath(__file__)))
 WORD = r"[A-Za-z_][A-Za-z0-9_]*"
 # The pages that name definitions, clauses and functions.
-PAGES = ["crates", "headline", "library", "limits", "meaning", "passes", "proved", "walks", "when-a-proof-fails", "why-trust-it"]
+PAGES = [*(f"docs/{it}" for it in ("crates", "headline", "library", "limits", "meaning", "passes", "proved", "walks", "why-trust-it")),
+         "tools/when-a-proof-fails"]
 # What a page may name that no source of this repository has: names of the kit, and letters that stand for any name.
 FOREIGN = {"antt", "rattle", "liblibc_c", "libos_c", "NAME", "NAMERun", "NAME_tests", "run_NAME", "PATH", "A", "B", "P", "S", "T", "Trait", "xs", "ys", "zs"}
 
@@ -50,9 +51,9 @@ def unknown_names():
     """What a page names and no source has; a name that ends in _ stands for all that begin so."""
     known = known_names()
     for page in PAGES:
-        for name in sorted(set(spans(f"{TOP}/docs/{page}.md")) - known):
+        for name in sorted(set(spans(f"{TOP}/{page}.md")) - known):
             if not (name.endswith("_") and any(word.startswith(name) for word in known)):
-                yield f"docs/{page}.md names {name}, which no source has"
+                yield f"{page}.md names {name}, which no source has"
 
 
 def without_head():
