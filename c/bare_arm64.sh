@@ -25,7 +25,7 @@ runs() {
     "${CC_ARM64:-aarch64-linux-gnu-gcc}" -std=gnu11 -O2 -ffreestanding -fno-builtin -fno-stack-protector -fno-pie -no-pie -mstrict-align \
         -Wall -Wextra -Werror -DNO_SYSTEM -DHEAP_SIZE=2097152 $flags -I"$top/include" -I"$top/examples/c" -static -nostdlib -Wl,-T,"$here/tests/bare_arm64.ld" \
         -Wl,--build-id=none "$here/tests/start_arm64.c" "$here/tests/no_libc.c" "$top/examples/c/own_heap.c" "$@" "$lib" -o "$room/$name.elf"
-    timeout "${SECONDS_OF_A_RUN:-300}" qemu-system-aarch64 -M virt -cpu cortex-a53 -m 16M -nic none -nographic -no-reboot \
+    timeout "${SECONDS_OF_A_RUN:-1200}" qemu-system-aarch64 -M virt -cpu cortex-a53 -m 16M -nic none -nographic -no-reboot \
         -kernel "$room/$name.elf" </dev/null 2>&1 || true
 }
 

@@ -23,7 +23,7 @@ runs() {
     "${CC:-cc}" -std=gnu11 -O2 -ffreestanding -fno-builtin -fno-stack-protector -fno-pie -no-pie -mno-red-zone -fcf-protection=none \
         -Wall -Wextra -Werror -DNO_SYSTEM -DHEAP_SIZE=2097152 $flags -I"$top/include" -I"$top/examples/c" -static -nostdlib -Wl,-T,"$here/tests/bare_x86_64.ld" \
         -Wl,--build-id=none "$here/tests/start_x86_64.c" "$here/tests/no_libc.c" "$top/examples/c/own_heap.c" "$@" "$lib" -o "$room/$name.elf"
-    timeout "${SECONDS_OF_A_RUN:-300}" qemu-system-x86_64 -M pc -cpu Nehalem -m 32M -nic none -display none -serial none -monitor none \
+    timeout "${SECONDS_OF_A_RUN:-1200}" qemu-system-x86_64 -M pc -cpu Nehalem -m 32M -nic none -display none -serial none -monitor none \
         -no-reboot -debugcon stdio -device isa-debug-exit,iobase=0xf4,iosize=4 -kernel "$room/$name.elf" </dev/null 2>/dev/null || true
 }
 

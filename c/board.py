@@ -18,7 +18,7 @@ DEVICES = {
     "these and `up`": ["-DWITH_UP"],
 }
 MEMORIES = [24, 64, 256]  # KB
-SECONDS = 300
+SECONDS = 1200
 
 
 class Board:

@@ -3,6 +3,7 @@
 a profile switched on and off, packets that are refused, a flood, and an end in the middle of a packet. Another peer never reads, and a third
 one never stops sending: the daemon has to end by SIGTERM all the same. SETUP is examples/endpoint.toml. What it has to reply is written here by
 M2-104-UM and M2-101-UM."""
+import os
 import select
 import signal
 import socket
@@ -15,7 +16,7 @@ import time
 WORDS = [1, 1, 1, 2, 2, 4, 1, 1, 2, 2, 2, 3, 3, 4, 4, 4]
 INFO, PROFILE = (0xF0010101, 0x81000300, 0, 0), bytes([126, 0, 1, 1, 0])
 MUID, OURS, FLOOD = 19088743, 0x0203040, 1000
-SECONDS = 20
+SECONDS = 600  # (of which none is waited for nothing: the machine may have much else to do)
 
 
 class Peer:
@@ -97,6 +98,7 @@ def talk(peer):
 
 def ask_without_reading(peer):
     """Asks until the daemon takes no more, since its replies fill the socket."""
+    peer.asks("Endpoint Info at first", [0xF0000101, 1, 0, 0], INFO)
     peer.ours.settimeout(1)
     try:
         while True:
@@ -108,10 +110,12 @@ def ask_without_reading(peer):
 
 def send_without_end(peer):
     """Sends packets faster than the daemon takes them, stops it in the middle, and ends it while the socket is full."""
+    peer.asks("Endpoint Info at first", [0xF0000101, 1, 0, 0], INFO)
     sender = subprocess.Popen(["cat", "/dev/zero"], stdout=peer.ours, stderr=subprocess.DEVNULL)
-    time.sleep(0.5)
     peer.daemon.send_signal(signal.SIGSTOP)
-    time.sleep(0.5)
+    os.waitpid(peer.daemon.pid, os.WUNTRACED)
+    while select.select([], [peer.ours], [], 0)[1]:
+        time.sleep(0.01)  # the sender fills the socket
     peer.daemon.terminate()
     sender.kill()
     sender.wait()

@@ -11,7 +11,7 @@ import tty
 ASKED = struct.pack("=6I", 0x40903C00, 0xC9240000, 0xF0000101, 0x00000001, 0, 0)
 # Version 1.1, static, one function block, both protocols: what examples/endpoint.toml says.
 WANTED = struct.pack("=4I", 0xF0010101, 0x81000300, 0, 0)
-SECONDS = 10
+SECONDS = 600
 
 
 def talk(program, setup):

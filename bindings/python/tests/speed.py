@@ -1,16 +1,15 @@
 #!/usr/bin/env python3
 """speed.py: how long the calls over arrays take, beside the calls of C alone: for packets of one lane, for packets of sixteen mixed lanes, and for
-bytes. It prints the ratios, and ends with 1 if one is over 10 although _lanes.c is compiled. Time is that of the processor, the best of five."""
+bytes. It prints the ratios; it is no test, since times depend on the machine and its load. Time is that of the processor, the best of five."""
 import ctypes
 import random
-import sys
 import time
 from array import array
 
 from larboardyuzu import Down, Up, _interface
 from larboardyuzu._library import call, split_of_c
 
-COUNT, MOST = 200_000, 10
+COUNT = 200_000
 
 
 def best(run):
@@ -60,8 +59,7 @@ def main():
     ratios = {"one lane": ratio_down([0]), "sixteen lanes": ratio_down(range(16)), "up": ratio_up()}
     told = ", ".join(f"{what} {ratio:.1f}" for what, ratio in ratios.items())
     print(f"times of the call of C: {told}, {'with' if split_of_c else 'without'} _lanes.c")
-    return 1 if split_of_c and max(ratios.values()) > MOST else 0
 
 
 if __name__ == "__main__":
-    sys.exit(main())
+    main()
