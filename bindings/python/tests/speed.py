@@ -9,7 +9,7 @@ from array import array
 from larboardyuzu import Down, Up, _interface
 from larboardyuzu._library import call, split_of_c
 
-COUNT = 200_000
+COUNT = 20_000
 
 
 def best(run):
