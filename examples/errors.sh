@@ -74,7 +74,7 @@ shows() {
     'cause packets') first ./larboardyuzu show --bytes < in.ump ;;
     'cause words with the least significant byte first') hex 003C9040 000024C9 > in.bad && first ./larboardyuzu show < in.bad ;;
     'cause a misspelt [[block]] or [[profile]]') edited 's/^..profile..$/[[profiles]]/' 2>&1 | tail -n 1 ;;
-    'cause an empty input') ./larboardyuzu translate up < /dev/null ;;
+    'cause the input is empty') ./larboardyuzu translate up < /dev/null ;;
 
     'rule 0') printf '#%.0s' {1..65537} > in.toml && run_setup ;;
     'rule 1') edited 's/^.endpoint.$/[device]/' ;;
