@@ -2,7 +2,7 @@
 """check_packages.py all: tries `make install`, `make uninstall` and `make deb`, with what is built here, in empty folders.
 
 What is installed has to run with no PATH, be readable by all whatever the umask is, and have pages whose links lead somewhere; once it is
-removed, only what others put there is left. The packages have to be the same twice, have no error by lintian, and are installed and removed
+removed, only what others put there is left; also over an older version, whose files are gone then. The packages have to be the same twice, have no error by lintian, and are installed and removed
 again by dpkg in an empty root. What needs a tool or a library that isn't here is left out, with a line. The exit code is 1 if anything fails."""
 import contextlib
 import os
@@ -138,6 +138,67 @@ def check_installed(prefix, libdir):
         print(f"packages: installed below {prefix}, tried and removed", flush=True)
 
 
+def check_folders():
+    """A folder that doesn't begin with / is refused, and nothing is written."""
+    for name, value in (("PREFIX", "relative/p"), ("PREFIX", "~/p"), ("LIBDIR", "lib"), ("DOCDIR", "./doc")):
+        got = ran([f"{TOP}/tools/install.sh", "install", "program"], env={**WITHOUT_KIT, "DESTDIR": "/nonexistent", name: value})
+        if got != (1, b"", f"install: {name}={value} has to begin with /\n".encode()):
+            yield f"tools/install.sh with {name}={value}: {got}"
+
+
+def last_commit_of(version):
+    """The last commit with this version, or None where git doesn't have it."""
+    changes = (release.git("log", "--format=%H", "--", "VERSION") or "").split()
+    for newer, it in zip([None, *changes], changes):
+        if (release.git("show", f"{it}:VERSION") or "").strip() == version:
+            return f"{newer}^" if newer else it
+    return None
+
+
+def install_older(version, room, variables):
+    """Installs an older version with its own tools/install.sh, and with stand-ins for what it has built; returns whether it is there."""
+    commit, tree = last_commit_of(version), f"{room}/{version}"
+    if commit is None:
+        left_out(f"installing over {version}", "commit of it here")
+        return False
+    os.makedirs(f"{tree}/built")
+    parts = ["README.md", "CONTRIBUTING.md", "CHANGELOG.md", "VERSION", "larboardyuzu", "crates.txt", "c", "docs", "completions", "include", "examples",
+             "bindings", "tools"]
+    parts = [it for it in parts if release.git("cat-file", "-e", f"{commit}:{it}") is not None]
+    subprocess.run(f'git -C "{TOP}" archive "{commit}" {" ".join(parts)} | tar -x -C "{tree}"', shell=True, check=True)
+    shutil.copy(built.all_built()[0].at(), f"{tree}/built/midi_tool")
+    for it in ("liblarboardyuzu.a", f"liblarboardyuzu.so.{version}"):
+        os.close(os.open(f"{tree}/built/{it}", os.O_CREAT))
+    env = {**WITHOUT_KIT, **variables, "PROGRAM": f"{tree}/built/midi_tool", "LIBRARY": f"{tree}/built"}
+    subprocess.run([f"{tree}/tools/install.sh", "install"], env=env, check=True, stdout=subprocess.DEVNULL)
+    return True
+
+
+def check_upgrade(version):
+    """Installs over an older version: nothing of that is left but its shared library, and once this one is removed, nothing at all."""
+    with tempfile.TemporaryDirectory(prefix="larboardyuzu-upgrade-") as room:
+        variables = {"DESTDIR": f"{room}/place", "PREFIX": "/usr/local"}
+        if not install_older(version, room, variables):
+            return
+        code, said = make("install", DESTDIR=f"{room}/alone", PREFIX="/usr/local")
+        wanted = files_in(f"{room}/alone")
+        stranger = f"{room}/place/usr/local/share/doc/larboardyuzu/stranger"
+        os.close(os.open(stranger, os.O_CREAT))
+        code, said = make("install", **variables)
+        more = [it for it in files_in(f"{room}/place") if it not in wanted and not re.search(r"/liblarboardyuzu\.so\.[0-9.]+$|/stranger$", it)]
+        # (without a library for C that of the older version stays)
+        more = [it for it in more if has_library() or not it.startswith(("usr/local/include/", "usr/local/lib/"))]
+        less = sorted(set(wanted) - set(files_in(f"{room}/place")))
+        if code or more or less:
+            yield f"make install over {version}: exit code {code}, {said}; left of it are {more}, and missing {less}"
+        yield from check_release.tried(f"{room}/place/usr/local/bin/larboardyuzu", SETUP, room)
+        again = make("install", **variables)
+        code, said = make("uninstall", **variables)
+        if again[0] or code or files_in(f"{room}/place") != [os.path.relpath(stranger, f"{room}/place")]:
+            yield f"make uninstall after {version}: exit code {code}, {said}; left are {files_in(f'{room}/place')}"
+        print(f"packages: installed over {version}, tried and removed", flush=True)
+
+
 @contextlib.contextmanager
 def empty_root():
     with tempfile.TemporaryDirectory(prefix="larboardyuzu-root-") as root:
@@ -213,7 +274,8 @@ def main(words):
         return 2
     if not has_library():
         left_out("the library for C", built.all_built()[1].path)
-    failed = [*check_installed("/usr/local", "/usr/local/lib"), *check_installed("/opt/own", "/opt/lib64"), *check_debian()]
+    failed = [*check_installed("/usr/local", "/usr/local/lib"), *check_installed("/opt/own", "/opt/lib64"),
+              *check_upgrade("0.2.0"), *check_upgrade("0.3.0"), *check_folders(), *check_debian()]
     print(*failed, f"packages: {len(failed)} failed" if failed else "packages: all as they should", sep="\n")
     return 1 if failed else 0
 

@@ -26,7 +26,7 @@ MIXED = bytes.fromhex("40903C00C9240000")
 FILES = ["larboardyuzu", "libexec/larboardyuzu", "README.md", "CONTRIBUTING.md", "CHANGELOG.md", "VERSION", "include/larboardyuzu.h",
          "include/larboardyuzu.hpp", "man/man1/larboardyuzu.1", "completions/larboardyuzu.bash", "completions/_larboardyuzu",
          "completions/larboardyuzu.fish", "docs/setup.md", "examples/endpoint.toml", "examples/helpers.sh", "tools/install.sh", "NOTICES.txt",
-         "RELEASE.txt"]
+         "RELEASE.txt", "larboardyuzu.spdx.json"]
 # The pages of a user: the others tell of the repository.
 USERS_PAGES = ["README.md", "docs/examples.md", "docs/recordings.md", "docs/errors.md", "docs/limits.md", "docs/faq.md", "docs/setup.md",
                "docs/c-library.md", "docs/peers.md", "docs/devices.md", "docs/receivers.md", "docs/larboardyuzu.1",
