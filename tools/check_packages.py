@@ -61,7 +61,7 @@ def check_links(folder):
             yield f"{name} leads nowhere"
         if name.endswith(".md"):
             with open(f"{folder}/{name}", encoding="utf-8") as it:
-                targets = re.findall(r"\]\((?!\.\./crates/)([^)#:]+)(?:#[^)]*)?\)", it.read())
+                targets = re.findall(r"\]\((?!(?:\.\./)?crates/)([^)#:]+)(?:#[^)]*)?\)", it.read())
             yield from (f"{name} links to {to}" for to in sorted(set(targets))
                         if not os.path.exists(f"{folder}/{os.path.dirname(name)}/{to}"))
 

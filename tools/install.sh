@@ -127,7 +127,8 @@ drop_folder() {
 # (a checkout has neither notices nor what a release says of itself)
 pages() {
   find . -maxdepth 1 \( -name NOTICES.txt -o -name RELEASE.txt -o -name '*.spdx.json' \) -printf '%f\n'
-  find README.md CONTRIBUTING.md CHANGELOG.md docs examples bindings tools/draw_muids.py tools/talk.py -type f \
+  find README.md CONTRIBUTING.md CHANGELOG.md docs examples bindings tools/draw_muids.py tools/editors.md tools/talk.py \
+    tools/when-a-proof-fails.md -type f \
     ! -path '*/__pycache__/*' ! -path '*/out/*' ! -name '*.midi1' ! -name '*~' ! -name '.*' | sort
 }
 

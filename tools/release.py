@@ -24,7 +24,7 @@ from built import TOP
 
 # What a release has of the repository: these, and all files in these folders that git has.
 PACKED = ["README.md", "CONTRIBUTING.md", "CHANGELOG.md", "VERSION", "larboardyuzu", "docs", "completions", "include", "examples", "bindings",
-          "tools/install.sh", "tools/draw_muids.py", "tools/talk.py", "tools/faults.py", "tools/faults.c"]
+          "tools/install.sh", "tools/draw_muids.py", "tools/editors.md", "tools/talk.py", "tools/when-a-proof-fails.md", "tools/faults.py", "tools/faults.c"]
 # The files by which pkg-config and CMake find the library, and where they lie in a release.
 DESCRIPTIONS = {"c/larboardyuzu.pc.in": "lib/pkgconfig/larboardyuzu.pc",
                 **{f"c/{it}.in": f"lib/cmake/larboardyuzu/{it}" for it in ("larboardyuzuConfig.cmake", "larboardyuzuConfigVersion.cmake")}}
